@@ -1,0 +1,37 @@
+-- Laws of tests. Assumes nothing.
+use Prim.Native.Nat.{ℕ}
+use mathlib.Core.Path.{_≡_, refl, sym}
+use mathlib.Core.Bool.{Bool, true, false, _&&_}
+use native.Mathlib.Omega.{arith}
+use lib.Dec.{T}
+
+pub true-false : {X : Type 0} → true ≡ false → X
+true-false e = let z : _≡_ {A = ℕ} 0 1 = cc in absurd (omega arith)
+
+pub false-true : {X : Type 0} → false ≡ true → X
+false-true e = true-false (sym e)
+
+pub both : (a b : Bool) → T (a && b) → T a × T b
+both true b t = (tt, t)
+both false b t = absurd t
+
+pub and : (a b : Bool) → T a → T b → T (a && b)
+and true b s t = t
+and false b s t = s
+
+pub is-true : (c : Bool) → T c → c ≡ true
+is-true true t = refl
+is-true false t = absurd t
+
+pub is-false : (c : Bool) → (T c → ⊥) → c ≡ false
+is-false true f = absurd (f tt)
+is-false false f = refl
+
+-- both parts of a test that passes
+pub left-true : (a b : Bool) → (a && b) ≡ true → a ≡ true
+left-true true b e = refl
+left-true false b e = e
+
+pub right-true : (a b : Bool) → (a && b) ≡ true → b ≡ true
+right-true true b e = e
+right-true false b e = false-true e

@@ -1,0 +1,49 @@
+-- Laws of checks in an order: at most one answer, and how an answer is found check by check. Assumes nothing.
+use Prim.Native.Nat.{ℕ}
+use mathlib.Core.Path.{_≡_, refl, sym, ap, _∙_}
+use mathlib.Core.Logic.{_↔_, inl, inr}
+use mathlib.Core.Bool.{Bool, true, false}
+use mathlib.Core.List.{List, [], _∷_, _++_}
+use lib.Dec.{T}
+use Rattle.zone.specs.Checks.{Answer, refused, accepted, Check, Accepts, First}
+
+accepts-one : {A : Type 0} (P : A → Type 0) → ((x y : A) → P x → P y → x ≡ y) → (a b : Answer A) → Accepts P a → Accepts P b → a ≡ b
+accepts-one P one (refused n p) b x y = absurd x
+accepts-one P one (accepted a) (refused n p) x y = absurd y
+accepts-one P one (accepted a) (accepted b) x y = ap {B = Answer _} accepted (one a b x y)
+
+-- at most one answer, where P leaves at most one value
+pub first-one : {A : Type 0} (cs : List Check) (P : A → Type 0) → ((x y : A) → P x → P y → x ≡ y) → (a b : Answer A) → First cs P a →
+    First cs P b → a ≡ b
+first-one [] P one a b p q = accepts-one P one a b p q
+first-one (c ∷ cs) P one a b (inl p) (inl q) = first-one cs P one a b (p .1) (q .1)
+first-one (c ∷ cs) P one a b (inl p) (inr q) = absurd (q .0 (p .0))
+first-one (c ∷ cs) P one a b (inr p) (inl q) = absurd (p .0 (q .0))
+first-one (c ∷ cs) P one a b (inr p) (inr q) = p .1 ∙ sym (q .1)
+
+-- an answer of yes or no that says whether X holds is one
+pub one-bool : (X : Type 0) (a b : Bool) → T a ↔ X → T b ↔ X → a ≡ b
+one-bool X true true p q = refl
+one-bool X true false p q = absurd (q .1 (p .0 tt))
+one-bool X false true p q = absurd (p .1 (q .0 tt))
+one-bool X false false p q = refl
+
+abbrev pub AllHold : List Check → Type 0
+AllHold [] = Unit {0}
+AllHold (c ∷ cs) = c .holds × AllHold cs
+
+-- checks that hold leave the answer to those behind them
+pub first-join : {A : Type 0} (cs ds : List Check) (P : A → Type 0) (a : Answer A) → AllHold cs → First ds P a → First (cs ++ ds) P a
+first-join [] ds P a h x = x
+first-join (c ∷ cs) ds P a h x = inl (h .0, first-join cs ds P a (h .1) x)
+
+-- all hold: an acceptance
+pub first-all : {A : Type 0} (cs : List Check) (P : A → Type 0) (x : A) → AllHold cs → P x → First cs P (accepted x)
+first-all [] P x h p = p
+first-all (c ∷ cs) P x h p = inl (h .0, first-all cs P x (h .1) p)
+
+-- an answer that the first checks give does not look at those behind them
+pub first-before : {A : Type 0} (cs ds : List Check) (P Q : A → Type 0) (n p : ℕ) → First cs P (refused n p) → First (cs ++ ds) Q (refused n p)
+first-before [] ds P Q n p x = absurd x
+first-before (c ∷ cs) ds P Q n p (inl x) = inl (x .0, first-before cs ds P Q n p (x .1))
+first-before {A} (c ∷ cs) ds P Q n p (inr x) = inr x

@@ -1,0 +1,119 @@
+-- Loops over tables: one that fills a table from the front, and one that looks for a number that fails a test. Assumes nothing.
+use Prim.Native.Nat.{ℕ, zero, suc, _+_, _*_, _/_, _%_, _≤_, _<_}
+use mathlib.Core.Path.{_≡_, refl, sym, ap, _∙_}
+use mathlib.Core.Bool.{Bool, true, false, _&&_, and-false}
+use mathlib.Core.List.{List}
+use mathlib.Core.Logic.{_⊎_, inl, inr}
+use native.Mathlib.Nat.{
+  add-zero,
+  add-suc,
+  suc-add,
+  zero-add,
+  eq-or-lt-of-le,
+  le-of-suc-le-suc,
+  not-suc-le-zero,
+  div-add-mod',
+}
+use native.Mathlib.Omega.{arith}
+use lib.ListN.{length, getD, set, length-set}
+use lib.Seq.{getD-set-same, getD-set-other, ext-getD}
+use Rattle.zone.specs.Cells.{unbounded}
+use Rattle.zone.specs.Squares.{cell, listOf, all?}
+use Rattle.zone.specs.declared.bounds.Bound.{Bound as Cell}
+use Rattle.zone.specs.declared.zones.Zone.{Zone as Square}
+use Rattle.zone.proofs.Bools.{false-true}
+use Rattle.zone.proofs.Integers.{lt-or-ge}
+
+-- the cell at an index is that of the index's two clocks
+pub at-clocks : (z : Square) (p : ℕ) → cell z (p / 5) (p % 5) ≡ getD (z .cells) p unbounded
+at-clocks z p = ap (λ (k : ℕ). getD (z .cells) k unbounded) (div-add-mod' p 5)
+
+-- the cells of a clock minus itself stand six apart
+pub on-diagonal : (z : Square) (i : ℕ) → cell z i i ≡ getD (z .cells) (i * 6) unbounded
+on-diagonal z i = ap (λ (k : ℕ). getD (z .cells) k unbounded) (let e : i * 5 + i ≡ i * 6 = omega arith in e)
+
+-- ---- the list of a function's values
+pub listOf-length : (f : ℕ → Cell) (n p : ℕ) → length (listOf f n p) ≡ n
+unfolding listOf
+listOf-length f zero p = refl
+listOf-length f (suc n) p = ap suc (listOf-length f n (suc p))
+
+from : (f : ℕ → Cell) (n p k : ℕ) → k < n → getD (listOf f n p) k unbounded ≡ f (p + k)
+unfolding listOf
+from f zero p k h = absurd (not-suc-le-zero h)
+from f (suc n) p zero h = ap f (sym (add-zero p))
+from f (suc n) p (suc k) h = from f n (suc p) k (le-of-suc-le-suc h) ∙ ap f (suc-add p k ∙ sym (add-suc p k))
+
+pub listOf-at : (f : ℕ → Cell) (n k : ℕ) → k < n → getD (listOf f n 0) k unbounded ≡ f k
+listOf-at f n k h = from f n 0 k h ∙ ap f (zero-add k)
+
+-- ---- a table that has the goal's cells below p, and from p on those that it had
+pub record Filled (goal old : List Cell) (p : ℕ) (xs : List Cell) : Type 0 where
+  pub size : length xs ≡ 25
+  pub done : (k : ℕ) → k < p → getD xs k unbounded ≡ getD goal k unbounded
+  pub rest : (k : ℕ) → p ≤ k → getD xs k unbounded ≡ getD old k unbounded
+
+module _ {goal old : List Cell} where
+  pub unfilled : length old ≡ 25 → Filled goal old 0 old
+  unfilled e = record { size = e; done = λ k h. absurd (not-suc-le-zero h); rest = λ k h. refl }
+
+  module _ {p : ℕ} {xs : List Cell} (t : Filled goal old p xs) where
+    -- one cell more is stored
+    pub stored : (v : Cell) → p < 25 → v ≡ getD goal p unbounded → Filled goal old (p + 1) (set xs p v)
+    stored v h e = record {
+      size = length-set xs p v ∙ t .size;
+      done = λ k l. at k (lt-or-ge k p) l;
+      rest = λ k l. getD-set-other xs p k v unbounded (λ q. omega arith) ∙ t .rest k (omega arith);
+    }
+      where
+        at : (k : ℕ) → (k < p) ⊎ (p ≤ k) → k < p + 1 → getD (set xs p v) k unbounded ≡ getD goal k unbounded
+        at k (inl l) g = getD-set-other xs p k v unbounded (λ q. omega arith) ∙ t .done k l
+        at k (inr l) g =
+            let q : k ≡ p = omega arith in
+            let s = t .size in
+            rw q (getD-set-same xs p v unbounded (omega arith) ∙ e)
+
+    -- the cells up to q are there already
+    pub kept :
+        (q : ℕ) → p ≤ q → ((k : ℕ) → p ≤ k → k < q → getD old k unbounded ≡ getD goal k unbounded) → Filled goal old q xs
+    kept q h e = record {
+      size = t .size;
+      done = λ k l. at k (lt-or-ge k p) l;
+      rest = λ k l. t .rest k (omega arith);
+    }
+      where
+        at : (k : ℕ) → (k < p) ⊎ (p ≤ k) → k < q → getD xs k unbounded ≡ getD goal k unbounded
+        at k (inl l) g = t .done k l
+        at k (inr l) g = t .rest k l ∙ e k l g
+
+    pub filled : length goal ≡ 25 → 25 ≤ p → _≡_ {A = Square} (record { cells = xs }) (record { cells = goal })
+    filled e h =
+        let s = t .size in
+        ap (λ (cs : List Cell). record { cells = cs })
+        (ext-getD unbounded xs goal (t .size ∙ sym e) (λ k l. t .done k (omega arith)))
+
+-- ---- a test at every number below n
+pub all-pass : (n : ℕ) (f : ℕ → Bool) → ((k : ℕ) → k < n → f k ≡ true) → all? n f ≡ true
+unfolding all?
+all-pass zero f h = refl
+all-pass (suc n) f h = rw (all-pass n f (λ k l. h k (omega arith)), h n (omega arith))
+
+pub one-fails : (n : ℕ) (f : ℕ → Bool) (k : ℕ) → k < n → f k ≡ false → all? n f ≡ false
+unfolding all?
+one-fails zero f k h e = absurd (not-suc-le-zero h)
+one-fails (suc n) f k h e = by (lt-or-ge k n) (one-fails n f k)
+  where
+    by : (k < n) ⊎ (n ≤ k) → (k < n → f k ≡ false → all? n f ≡ false) → (all? n f && f n) ≡ false
+    by (inl l) r = rw (r l e)
+    by (inr l) r = let q : k ≡ n = omega arith in rw (ap f (sym q) ∙ e) (and-false (all? n f))
+
+-- a test that passes at every number below n passes at each
+pub all-at : (n : ℕ) (f : ℕ → Bool) → all? n f ≡ true → (i : ℕ) → i < n → f i ≡ true
+unfolding all?
+all-at zero f e i h = absurd (omega arith)
+all-at (suc n) f e i h = by (all? n f) (f n) (all-at n f) refl e (eq-or-lt-of-le (le-of-suc-le-suc h))
+  where
+    by : (a b : Bool) → (a ≡ true → (i : ℕ) → i < n → f i ≡ true) → b ≡ f n → a && b ≡ true → (i ≡ n) ⊎ (i < n) → f i ≡ true
+    by true b rest e t (inl q) = ap f q ∙ sym e ∙ t
+    by true b rest e t (inr l) = rest refl i l
+    by false b rest e t q = false-true t

@@ -1,0 +1,222 @@
+-- The code's square tables as tables of the theory: cell by cell within five clocks, unbounded outside. Assumes nothing.
+use Prim.Native.Nat.{ℕ, zero, suc, _+_, _*_, _/_, _%_, _<_, _≤_}
+use mathlib.Core.Path.{_≡_, refl, sym, ap, ap₂, _∙_, fun-ext, subst, subst₂}
+use mathlib.Core.Bool.{Bool, true, false, not, cond, _&&_, _||_}
+use native.Mathlib.Nat as N
+use native.Mathlib.Omega.{arith}
+use lib.Dec.{T, eqb, eqb→eq, eqb·suc-zero, ltb, ltb→lt}
+use borrow.Author.Tests.{lt-ltb, eqb-false, not-true, not-false}
+use lib.Seq.{getD-set-same, getD-set-other}
+use lib.ListN.{getD, length, length-set}
+use Rattle.zone.specs.Cells.{unbounded, atMostZero, tighter?, tighterOf, sum, negative?}
+use Rattle.zone.specs.Squares.{
+  cell,
+  squareOf,
+  met,
+  passed,
+  passedBelow,
+  tightened,
+  delayedSquare,
+  source,
+  resetSquare,
+  reached,
+  universe,
+  withBound,
+  empty?,
+  inside?,
+}
+use Rattle.zone.specs.declared.bounds.Bound.{Bound as Cell}
+use Rattle.zone.specs.declared.zones.Zone.{Zone as Square}
+use Rattle.zone.proofs.Bools.{false-true}
+use Rattle.zone.proofs.CellLaws.{bounds, asTight-tighter, asTight-negative}
+use Rattle.zone.proofs.Loops.{at-clocks, listOf-length, listOf-at, all-pass, all-at}
+use Rattle.zone.proofs.Theory.Tables.{Table, Ok, pass, close, meet}
+use Rattle.zone.proofs.Theory.Delay.{delay}
+use Rattle.zone.proofs.Theory.Reset.{renamed, renamed-lt}
+use Rattle.zone.proofs.Theory.Reach.{reach}
+use Rattle.zone.specs.Moves.{masked?}
+
+-- f within five clocks
+unfoldable pub clipped : (ℕ → ℕ → Cell) → Table bounds
+clipped f i j = cond (ltb i 5 && ltb j 5) (f i j) unbounded
+
+unfoldable pub tableOf : Square → Table bounds
+tableOf z = clipped (cell z)
+
+pub clipped-at : (f : ℕ → ℕ → Cell) (i j : ℕ) → i < 5 → j < 5 → clipped f i j ≡ f i j
+unfolding clipped
+clipped-at f i j hi hj = simp (lt-ltb i 5 hi, lt-ltb j 5 hj)
+
+pub table-at : (z : Square) (i j : ℕ) → i < 5 → j < 5 → tableOf z i j ≡ cell z i j
+unfolding tableOf
+table-at z i j = clipped-at (cell z) i j
+
+pub row : (i j : ℕ) → j < 5 → (i * 5 + j) / 5 ≡ i
+row i j h = omega arith
+
+pub column : (i j : ℕ) → j < 5 → (i * 5 + j) % 5 ≡ j
+column i j h = omega arith
+
+pub square-at : (f : ℕ → ℕ → Cell) (i j : ℕ) → i < 5 → j < 5 → cell (squareOf f) i j ≡ f i j
+square-at f i j hi hj = listOf-at (λ p. f (p / 5) (p % 5)) 25 (i * 5 + j) (omega arith) ∙ ap₂ f (row i j hj) (column i j hj)
+
+-- two clipped tables that agree within five clocks are one
+clip-same : (f g : ℕ → ℕ → Cell) → ((i j : ℕ) → i < 5 → j < 5 → f i j ≡ g i j) → clipped f ≡ clipped g
+unfolding clipped
+clip-same f g h = fun-ext (λ i. fun-ext (λ j. by i j (ltb i 5) (ltb j 5) (ltb→lt i 5) (ltb→lt j 5)))
+  where
+    by : (i j : ℕ) (a b : Bool) → (T a → i < 5) → (T b → j < 5) → cond (a && b) (f i j) unbounded ≡ cond (a && b) (g i j) unbounded
+    by i j true true p q = h i j (p tt) (q tt)
+    by i j true false p q = refl
+    by i j false b p q = refl
+
+pub table-square : (f : ℕ → ℕ → Cell) → tableOf (squareOf f) ≡ clipped f
+unfolding tableOf
+table-square f = clip-same (cell (squareOf f)) f (square-at f)
+
+-- a pass within five clocks, by the tests that i, j and m are
+passed-at : (z : Square) (i j m : ℕ) (a b c : Bool) → c ≡ true →
+    cond (a && b) (tighterOf (cell z i j) (sum (cell z i m) (cell z m j))) unbounded
+    ≡ tighterOf (cond (a && b) (cell z i j) unbounded) (sum (cond (a && c) (cell z i m) unbounded) (cond (c && b) (cell z m j) unbounded))
+passed-at z i j m a b false e = false-true e
+passed-at z i j m true true true e = refl
+passed-at z i j m true false true e = sym (ap (tighterOf unbounded) (bounds .⊕-unbounded (cell z i m)) ∙ bounds .unbounded-⊓)
+passed-at z i j m false true true e = sym (ap (tighterOf unbounded) (bounds .unbounded-⊕ (cell z m j)) ∙ bounds .unbounded-⊓)
+passed-at z i j m false false true e = sym (ap (tighterOf unbounded) (bounds .unbounded-⊕ unbounded) ∙ bounds .unbounded-⊓)
+
+-- ---- the operations, as the theory has them
+pub table-passed : (m : ℕ) → m < 5 → (z : Square) → tableOf (passed m z) ≡ pass bounds m (tableOf z)
+unfolding tableOf clipped pass
+table-passed m hm z =
+    table-square (λ i j. tighterOf (cell z i j) (sum (cell z i m) (cell z m j)))
+    ∙ fun-ext (λ i. fun-ext (λ j. passed-at z i j m (ltb i 5) (ltb j 5) (ltb m 5) (lt-ltb m 5 hm)))
+
+below-tightened : (n : ℕ) → n ≤ 5 → (z : Square) → tableOf (passedBelow n z) ≡ close bounds n (tableOf z)
+unfolding passedBelow close
+below-tightened zero h z = refl
+below-tightened (suc m) h z = table-passed m (omega arith) (passedBelow m z) ∙ ap (pass bounds m) (below-tightened m (omega arith) z)
+
+pub table-tightened : (z : Square) → tableOf (tightened z) ≡ close bounds 5 (tableOf z)
+table-tightened z = below-tightened 5 (omega arith) z
+
+pub table-met : (y z : Square) → tableOf (met y z) ≡ meet bounds (tableOf y) (tableOf z)
+unfolding tableOf clipped meet
+table-met y z = table-square (λ i j. tighterOf (cell y i j) (cell z i j)) ∙ fun-ext (λ i. fun-ext (λ j. by i j (ltb i 5 && ltb j 5)))
+  where
+    by : (i j : ℕ) (c : Bool) →
+        cond c (tighterOf (cell y i j) (cell z i j)) unbounded ≡ tighterOf (cond c (cell y i j) unbounded) (cond c (cell z i j) unbounded)
+    by i j true = refl
+    by i j false = sym (bounds .unbounded-⊓)
+
+pub table-delayed : (z : Square) → tableOf (delayedSquare z) ≡ delay bounds (tableOf z)
+unfolding tableOf clipped delay
+table-delayed z = table-square (λ i j. cond (not (eqb i 0) && eqb j 0) unbounded (cell z i j)) ∙ fun-ext (λ i. fun-ext (λ j. at i j))
+  where
+    same : (c : Bool) → cond c unbounded unbounded ≡ unbounded
+    same true = refl
+    same false = refl
+
+    at : (i j : ℕ) → cond (ltb i 5 && ltb j 5) (cond (not (eqb i 0) && eqb j 0) unbounded (cell z i j)) unbounded ≡ delay bounds
+        (λ a b. cond (ltb a 5 && ltb b 5) (cell z a b) unbounded) i j
+    at zero j = refl
+    at (suc i) zero = rw eqb·suc-zero (same (ltb (suc i) 5 && true))
+    at (suc i) (suc j) = rw (eqb·suc-zero i, eqb·suc-zero j) refl
+
+pub table-reached : (y z : Square) → tableOf (reached y z) ≡ reach bounds 5 (tableOf y) (tableOf z)
+unfolding reach
+table-reached y z =
+    table-tightened (met (delayedSquare (tightened y)) z)
+    ∙ ap (close bounds 5)
+    (table-met (delayedSquare (tightened y)) z
+    ∙ ap (λ A. meet bounds A (tableOf z)) (table-delayed (tightened y) ∙ ap (delay bounds) (table-tightened y)))
+
+pub source-lt : (mask i : ℕ) → i < 5 → source mask i < 5
+unfolding source renamed
+source-lt mask i h = renamed-lt (masked? mask) i h
+
+pub table-reset : (mask : ℕ) (z : Square) (i j : ℕ) → i < 5 → j < 5 → tableOf (resetSquare mask z) i j ≡ tableOf z (source mask i) (source mask j)
+table-reset mask z i j hi hj =
+    table-at (resetSquare mask z) i j hi hj ∙ square-at (λ a b. cell z (source mask a) (source mask b)) i j hi hj
+    ∙ sym (table-at z (source mask i) (source mask j) (source-lt mask i hi) (source-lt mask j hj))
+
+pub table-universe : (i j : ℕ) → i < 5 → j < 5 → tableOf universe i j ≡ cond (eqb i 0 || eqb i j) atMostZero unbounded
+table-universe i j hi hj = table-at universe i j hi hj ∙ square-at (λ a b. cond (eqb a 0 || eqb a b) atMostZero unbounded) i j hi hj
+
+-- ---- one bound more
+pub sized-square : (f : ℕ → ℕ → Cell) → length (squareOf f .cells) ≡ 25
+sized-square f = listOf-length (λ p. f (p / 5) (p % 5)) 25 0
+
+pub sized-tightened : (z : Square) → length (tightened z .cells) ≡ 25
+unfolding passedBelow
+sized-tightened z =
+    let y : Square = passedBelow 4 z in
+    sized-square (λ i j. tighterOf (cell y i j) (sum (cell y i 4) (cell y 4 j)))
+
+module _ (i j : ℕ) (c : Cell) (z : Square) where
+  pub sized-with : length (z .cells) ≡ 25 → length (withBound i j c z .cells) ≡ 25
+  unfolding withBound
+  sized-with h = simp length-set h
+
+  module _ (sized : length (z .cells) ≡ 25) (hi : i < 5) (hj : j < 5) where
+    with-here : tableOf (withBound i j c z) i j ≡ tighterOf (tableOf z i j) c
+    unfolding withBound
+    with-here = table-at (withBound i j c z) i j hi hj
+        ∙ getD-set-same (z .cells) (i * 5 + j) (tighterOf (cell z i j) c) unbounded (omega arith)
+        ∙ ap (λ b. tighterOf b c) (sym (table-at z i j hi hj))
+
+    with-other : (a b : ℕ) → a < 5 → b < 5 → (a * 5 + b ≡ i * 5 + j → ⊥) → tableOf (withBound i j c z) a b ≡ tableOf z a b
+    unfolding withBound
+    with-other a b ha hb ne = table-at (withBound i j c z) a b ha hb
+        ∙ getD-set-other (z .cells) (i * 5 + j) (a * 5 + b) (tighterOf (cell z i j) c) unbounded ne ∙ sym (table-at z a b ha hb)
+
+    -- a property of every old bound and of the tighter one is one of every bound
+    with-by : (P : ℕ → ℕ → Cell → Type 0) → ((a b : ℕ) → a < 5 → b < 5 → P a b (tableOf z a b)) → P i j (tighterOf (tableOf z i j) c) →
+        (a b : ℕ) → a < 5 → b < 5 → P a b (tableOf (withBound i j c z) a b)
+    with-by P old new a b ha hb = by (eqb (a * 5 + b) (i * 5 + j)) (eqb→eq (a * 5 + b) (i * 5 + j)) (eqb-false (a * 5 + b) (i * 5 + j))
+      where
+        by : (t : Bool) → (T t → a * 5 + b ≡ i * 5 + j) → (t ≡ false → a * 5 + b ≡ i * 5 + j → ⊥) → P a b (tableOf (withBound i j c z) a b)
+        by true f g =
+            let e : i ≡ a = omega (arith, f tt) in
+            let d : j ≡ b = omega (arith, f tt) in
+            subst₂ (λ x y. P x y (tableOf (withBound i j c z) x y)) e d (subst (P i j) (sym with-here) new)
+        by false f g = subst (P a b) (sym (with-other a b ha hb (g refl))) (old a b ha hb)
+
+    pub with-cases : (P : ℕ → ℕ → Cell → Type 0) → ((a b : ℕ) → a < 5 → b < 5 → P a b (tableOf z a b)) → P i j c → (a b : ℕ) → a < 5 →
+        b < 5 → P a b (tableOf (withBound i j c z) a b)
+    with-cases P old new = with-by P old (bounds .⊓-cases (tableOf z i j) c (P i j) (old i j hi hj) new)
+
+    pub with-old : (a b : ℕ) → a < 5 → b < 5 → bounds ._⊑_ (tableOf (withBound i j c z) a b) (tableOf z a b)
+    with-old = with-by (λ a b d. bounds ._⊑_ d (tableOf z a b)) (λ a b _ _. bounds .⊑-refl (tableOf z a b)) (bounds .⊓-left (tableOf z i j) c)
+
+    pub with-new : bounds ._⊑_ (tableOf (withBound i j c z) i j) c
+    with-new = subst (λ d. bounds ._⊑_ d c) (sym with-here) (bounds .⊓-right (tableOf z i j) c)
+
+-- ---- the two tests of a table
+pub nonempty-ok : (z : Square) → empty? z ≡ false → Ok bounds 5 (tableOf z)
+unfolding empty?
+nonempty-ok z e i h =
+    rw (table-at z i i h h) (asTight-negative (cell z i i) .0 (not-true _ (all-at 5 (λ i. not (negative? (cell z i i))) (not-false _ e) i h)))
+
+pub ok-nonempty : (z : Square) → Ok bounds 5 (tableOf z) → empty? z ≡ false
+unfolding empty?
+ok-nonempty z ok = rw
+    (all-pass 5 (λ i. not (negative? (cell z i i))) (λ i h. rw (asTight-negative (cell z i i) .1 (rw (table-at z i i h h) at (ok i h)))))
+
+pub inside-cells : (y z : Square) → inside? y z ≡ true → (i j : ℕ) → i < 5 → j < 5 → bounds ._⊑_ (tableOf y i j) (tableOf z i j)
+unfolding inside?
+inside-cells y z e i j hi hj =
+    rw (table-at y i j hi hj, table-at z i j hi hj)
+    (asTight-tighter (cell y i j) (cell z i j) .0
+    (not-true _ (all-at 25 (λ p. not (tighter? (getD (z .cells) p unbounded) (getD (y .cells) p unbounded))) e (i * 5 + j) (omega arith))))
+
+pub cells-inside : (y z : Square) → ((i j : ℕ) → i < 5 → j < 5 → bounds ._⊑_ (tableOf y i j) (tableOf z i j)) → inside? y z ≡ true
+unfolding inside?
+cells-inside y z h = all-pass 25 (λ p. not (tighter? (getD (z .cells) p unbounded) (getD (y .cells) p unbounded))) each
+  where
+    each : (p : ℕ) → p < 25 → not (tighter? (getD (z .cells) p unbounded) (getD (y .cells) p unbounded)) ≡ true
+    each p l =
+        let hi : p / 5 < 5 = omega arith in
+        let hj : p % 5 < 5 = omega arith in
+        rw (asTight-tighter (getD (y .cells) p unbounded) (getD (z .cells) p unbounded) .1
+        (subst₂ (bounds ._⊑_) (table-at y (p / 5) (p % 5) hi hj ∙ at-clocks y p) (table-at z (p / 5) (p % 5) hi hj ∙ at-clocks z p)
+        (h (p / 5) (p % 5) hi hj)))

@@ -1,0 +1,9 @@
+pub mod BoundLaws
+pub mod Tables
+pub mod Meaning
+pub mod Extend
+pub mod Restore
+pub mod Inside
+pub mod Delay
+pub mod Reset
+pub mod Reach

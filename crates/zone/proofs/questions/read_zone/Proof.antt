@@ -1,0 +1,132 @@
+use Prim.Native.Nat.{ℕ, _≤_, _<_, _-_}
+use mathlib.Core.Path.{_≡_, sym, ap, _∙_}
+use mathlib.Core.Bool.{true}
+use native.Mathlib.Omega.{arith}
+use borrow.Author.Needs.{needs}
+use borrow.Author.Tests.{not-true, not-false}
+use lib.ListN.{length, drop, getD}
+use Rattle.zone.specs.Words.{goodBound?}
+use Rattle.zone.specs.Squares.{universe}
+use Rattle.zone.specs.Reading.{readFrom, readZone, withWord}
+use Rattle.zone.proofs.ReadLaws.{loop-end, loop-bad, loop-good}
+use Rattle.zone.proofs.WordLaws.{good-first, good-second}
+use Rattle.zone.proofs.questions.read_zone.Statement.{statement}
+use Rattle.zone.proofs.questions.read_zone.Tie as tie
+
+abbrev Inv-loop : tie.InvT-loop
+Inv-loop clocks list zone₀ at₀ at-end zone at =
+    (at ≤ length list) × (readFrom clocks list 0 universe ≡ readFrom clocks (drop at list) at zone)
+
+abbrev μ-loop : tie.MeasureT-loop
+μ-loop clocks list zone₀ at₀ at-end zone at = length list - at
+
+-- past the test of a word: the turn of the loop, the clocks and the word
+abbrev turn : tie.Else1 Inv-loop μ-loop → tie.At-loop Inv-loop μ-loop
+turn c = c .before .before .before .before
+
+abbrev clocks : tie.Else1 Inv-loop μ-loop → ℕ
+clocks c = turn c .before .before .before .args .clocks
+
+abbrev word : tie.Else1 Inv-loop μ-loop → ℕ
+word c = getD (turn c .before .before .before .args .list .now) (turn c .loop .at) 0
+
+-- the word is a good bound
+good : (c : tie.Else1 Inv-loop μ-loop) → goodBound? (clocks c) (word c) ≡ true
+good c = sym (c .before .good-bound .ensures) ∙ not-false _ (c .if1 .left)
+
+below-five : (c : tie.Else1 Inv-loop μ-loop) {k : ℕ} → k ≤ clocks c → k < 5
+below-five c h = omega arith
+
+-- the zone with the word's bound
+added :
+    (c : tie.After-with-bound Inv-loop μ-loop) →
+    let past = c .before .before .before .before in
+    c .with-bound .result ≡ withWord (word past) (turn past .loop .zone)
+unfolding withWord
+added c =
+    c .with-bound .ensures
+    ∙ rw (c .before .before .before .first-clock .ensures, c .before .before .second-clock .ensures, c .before .bound-of .ensures)
+
+universe-requires : tie.Need-universe-requires Inv-loop μ-loop
+universe-requires c κs = search needs
+
+loop-holds : tie.Need-loop-holds Inv-loop μ-loop
+loop-holds c = (omega arith, ap (readFrom _ _ _) (sym (c .universe .ensures)))
+
+mul-word : tie.Need-mul-word Inv-loop μ-loop
+mul-word c = search needs
+
+shared-slice-read-word : tie.Need-shared-slice-read-word Inv-loop μ-loop
+shared-slice-read-word c = search needs
+
+good-bound-requires : tie.Need-good-bound-requires Inv-loop μ-loop
+good-bound-requires c κs = search needs
+
+returns : tie.Need-returns Inv-loop μ-loop
+unfolding readZone
+returns c =
+    let turn = c .before .before .before .before .loop in
+    loop-bad _ _ (turn .at) _ (omega arith) (sym (c .before .good-bound .ensures) ∙ not-true _ (c .if1 .taken)) ∙ sym (turn .inv .1)
+
+first-clock-requires : tie.Need-first-clock-requires Inv-loop μ-loop
+first-clock-requires c κs = search needs
+
+cast-with-bound : tie.Need-cast-with-bound Inv-loop μ-loop
+cast-with-bound c = search needs
+
+second-clock-requires : tie.Need-second-clock-requires Inv-loop μ-loop
+second-clock-requires c κs = search needs
+
+cast-with-bound-2 : tie.Need-cast-with-bound-2 Inv-loop μ-loop
+cast-with-bound-2 c = search needs
+
+bound-of-requires : tie.Need-bound-of-requires Inv-loop μ-loop
+bound-of-requires c κs = search needs
+
+with-bound-requires : tie.Need-with-bound-requires Inv-loop μ-loop
+with-bound-requires c κs =
+    let past = c .before .before .before in (
+      rw (c .before .before .first-clock .ensures) (below-five past (good-first _ _ (good past))),
+      rw (c .before .second-clock .ensures) (below-five past (good-second _ _ (good past))),
+    )
+
+add-at : tie.Need-add-at Inv-loop μ-loop
+add-at c = search needs
+
+loop-less : tie.Need-loop-less Inv-loop μ-loop
+loop-less c = search needs
+
+loop-again : tie.Need-loop-again Inv-loop μ-loop
+loop-again c =
+    let past = c .before .before .before .before in (
+      omega arith,
+      turn past .loop .inv .1 ∙ loop-good _ _ _ _ (past .before .before .before .loop-test .taken) (good past)
+          ∙ ap (readFrom _ _ _) (sym (added c)),
+    )
+
+returns-2 : tie.Need-returns-2 Inv-loop μ-loop
+unfolding readZone
+returns-2 c = loop-end _ _ _ _ (c .before .loop .inv .0) (c .loop-test .left) ∙ sym (c .before .loop .inv .1)
+
+pub read-zone-spec : {M : Type 1} → statement M
+read-zone-spec =
+    tie.close
+    (tie.spec
+    Inv-loop
+    μ-loop
+    universe-requires
+    loop-holds
+    mul-word
+    shared-slice-read-word
+    good-bound-requires
+    returns
+    first-clock-requires
+    cast-with-bound
+    second-clock-requires
+    cast-with-bound-2
+    bound-of-requires
+    with-bound-requires
+    add-at
+    loop-less
+    loop-again
+    returns-2)

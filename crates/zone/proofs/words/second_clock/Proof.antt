@@ -1,0 +1,11 @@
+use mathlib.Core.Path.{refl}
+use Rattle.zone.specs.Words.{boundOf}
+use Rattle.zone.proofs.words.second_clock.Statement.{statement}
+use Rattle.zone.proofs.words.second_clock.Tie as tie
+
+returns : tie.Need-returns
+unfolding boundOf
+returns c = refl
+
+pub second-clock-spec : {M : Type 1} → statement M
+second-clock-spec = tie.close (tie.spec returns)

@@ -1,0 +1,77 @@
+use Prim.Native.Nat.{ℕ, _≤_, _<_, _-_}
+use mathlib.Core.Path.{_≡_, ap, sym, _∙_}
+use mathlib.Core.Bool.{not, true}
+use native.Mathlib.Omega.{arith}
+use borrow.Author.Count.{below-none, below-more}
+use borrow.Author.Needs.{needs}
+use Rattle.zone.specs.Cells.{negative?}
+use Rattle.zone.specs.Squares.{cell, empty?}
+use Rattle.zone.proofs.Loops.{all-pass, one-fails, on-diagonal}
+use Rattle.zone.proofs.zones.Zone.is_empty.Statement.{statement}
+use Rattle.zone.proofs.zones.Zone.is_empty.Tie as tie
+
+abbrev Inv-loop : tie.InvT-loop
+Inv-loop self i₀ i = (i ≤ 5) × ((k : ℕ) → k < i → not (negative? (cell self k k)) ≡ true)
+
+abbrev μ-loop : tie.MeasureT-loop
+μ-loop self i₀ i = 5 - i
+
+-- what the call tells of the clock's own bound
+own :
+    (c : tie.After-negative Inv-loop μ-loop) →
+    let turn = c .before .before .before .loop in
+    negative? (cell (c .before .before .before .before .args .t1) (turn .i) (turn .i)) ≡ c .negative .result
+own c = ap negative? (on-diagonal (c .before .before .before .before .args .t1) _) ∙ sym (c .negative .ensures)
+
+loop-holds : tie.Need-loop-holds Inv-loop μ-loop
+loop-holds c = (omega arith, below-none _)
+
+mul-own : tie.Need-mul-own Inv-loop μ-loop
+mul-own c = search needs
+
+mul-own-2 : tie.Need-mul-own-2 Inv-loop μ-loop
+mul-own-2 c = search needs
+
+element-copy-out-own : tie.Need-element-copy-out-own Inv-loop μ-loop
+element-copy-out-own c = search needs
+
+negative-requires : tie.Need-negative-requires Inv-loop μ-loop
+negative-requires c κs = search needs
+
+returns : tie.Need-returns Inv-loop μ-loop
+unfolding empty?
+returns c =
+    let turn = c .before .before .before .before .loop in
+    sym (ap not (one-fails 5 _ (turn .i) (omega arith) (ap not (own (c .before) ∙ c .if1 .taken))))
+
+add-i : tie.Need-add-i Inv-loop μ-loop
+add-i c = search needs
+
+loop-less : tie.Need-loop-less Inv-loop μ-loop
+loop-less c = search needs
+
+loop-again : tie.Need-loop-again Inv-loop μ-loop
+loop-again c =
+    let turn = c .before .before .before .before .loop in
+    (omega arith, below-more _ _ (turn .inv .1) (ap not (own (c .before) ∙ c .if1 .left)))
+
+returns-2 : tie.Need-returns-2 Inv-loop μ-loop
+unfolding empty?
+returns-2 c = sym (ap not (all-pass 5 _ (λ k h. c .before .loop .inv .1 k (omega arith))))
+
+pub is-empty-spec : {M : Type 1} → statement M
+is-empty-spec =
+    tie.close
+    (tie.spec
+    Inv-loop
+    μ-loop
+    loop-holds
+    mul-own
+    mul-own-2
+    element-copy-out-own
+    negative-requires
+    returns
+    add-i
+    loop-less
+    loop-again
+    returns-2)

@@ -1,0 +1,71 @@
+use Prim.Native.Nat.{ℕ, _≤_, _<_, _-_, _/_, _%_, _+_}
+use mathlib.Core.Path.{_≡_, refl, _∙_}
+use mathlib.Core.Bool.{true, false, _||_}
+use mathlib.Core.Logic.{⊎-elim}
+use native.Mathlib.Omega.{arith}
+use borrow.Author.Needs.{needs}
+use lib.Dec.{eqb}
+use lib.ListN.{getD, replicate, getD-replicate}
+use Rattle.zone.specs.Cells.{unbounded, atMostZero}
+use Rattle.zone.specs.Squares.{universe}
+use Rattle.zone.proofs.Loops.{listOf-length, listOf-at, Filled, unfilled, stored, kept, filled}
+use Rattle.zone.proofs.zones.Zone.universe.Statement.{statement}
+use Rattle.zone.proofs.zones.Zone.universe.Tie as tie
+
+abbrev Inv-loop : tie.InvT-loop
+Inv-loop cells₀ p₀ cells p = (p ≤ 25) × Filled (universe .cells) cells₀ p cells
+
+abbrev μ-loop : tie.MeasureT-loop
+μ-loop cells₀ p₀ cells p = 25 - p
+
+-- the cells that have a bound, and those that do not
+bound : (p : ℕ) → p < 25 → (eqb (p / 5) 0 || eqb (p / 5) (p % 5)) ≡ true → atMostZero ≡ getD (universe .cells) p unbounded
+bound p h e = rw (listOf-at _ 25 p h, e)
+
+blank :
+    (p : ℕ) → p < 25 → (eqb (p / 5) 0 || eqb (p / 5) (p % 5)) ≡ false → (k : ℕ) → p ≤ k → k < p + 1 →
+    getD (replicate 25 unbounded) k unbounded ≡ getD (universe .cells) k unbounded
+blank p h e k l m =
+    let q : k ≡ p = omega arith in rw q (getD-replicate 25 p unbounded unbounded h ∙ rw (listOf-at _ 25 p h, e))
+
+loop-holds : tie.Need-loop-holds Inv-loop μ-loop
+loop-holds c = (omega arith, unfilled refl)
+
+mul-cells : tie.Need-mul-cells Inv-loop μ-loop
+mul-cells c = search needs
+
+array-set-from-cells : tie.Need-array-set-from-cells Inv-loop μ-loop
+array-set-from-cells c = search needs
+
+add-p : tie.Need-add-p Inv-loop μ-loop
+add-p c = search needs
+
+loop-less : tie.Need-loop-less Inv-loop μ-loop
+loop-less c = search needs
+
+loop-again : tie.Need-loop-again Inv-loop μ-loop
+loop-again c =
+    let turn = c .before .before .loop in (
+      omega arith,
+      ⊎-elim
+          (λ w. rw (w .1) (stored (turn .inv .1) atMostZero (omega arith) (bound (turn .p) (omega arith) (w .0 .taken))))
+          (λ w. rw (w .1) (kept (turn .inv .1) (turn .p + 1) (omega arith) (blank (turn .p) (omega arith) (w .0 .left))))
+          (c .if1 .came),
+    )
+
+returns : tie.Need-returns Inv-loop μ-loop
+returns c = filled (c .before .loop .inv .1) (listOf-length _ 25 0) (c .loop-test .left)
+
+pub universe-spec : {M : Type 1} → statement M
+universe-spec =
+    tie.close
+    (tie.spec
+    Inv-loop
+    μ-loop
+    loop-holds
+    mul-cells
+    array-set-from-cells
+    add-p
+    loop-less
+    loop-again
+    returns)

@@ -1,0 +1,164 @@
+ghost use mathlib.Core.Path.{_≡_};
+ghost use Prim.Native.Nat.{_<_, _^_};
+ghost use Rattle.zone.specs.Moves.{masked?};
+ghost use Rattle.zone.specs.Squares.{universe, withBound, met, passed, tightened, delayedSquare, source, resetSquare, beforeReset};
+ghost use Rattle.zone.specs.Squares.{empty?, inside?, Small};
+use crate::bounds::Bound;
+
+// A zone as a square table of bounds, five clocks by five (a difference bound matrix): cell i * 5 + j bounds clock i minus clock j.
+// Clocks that a model does not have get no bounds of their own. `universe` has that no clock is below 0, and so has every zone that the
+// methods make from it.
+pub struct Zone {
+    pub cells: [Bound; 25],
+}
+
+// Whether a mask names a clock; its lowest bit is clock 1.
+pub(crate) fn masked(mask: u32, clock: usize) -> bool
+    requires { ⌜ clock < 5 ⌝ }
+    ensures { λ r. ⌜ r ≡ masked? mask clock ⌝ }
+{
+    match clock {
+        0 => false,
+        1 => mask % 2 == 1,
+        2 => mask / 2 % 2 == 1,
+        3 => mask / 4 % 2 == 1,
+        _ => mask / 8 % 2 == 1,
+    }
+}
+
+// The clock whose bounds a clock has after a reset.
+pub(crate) fn source_of(mask: u32, clock: usize) -> usize
+    requires { ⌜ clock < 5 ⌝ }
+    ensures { λ r. ⌜ (r ≡ source mask clock) × (r < 5) ⌝ }
+{
+    if masked(mask, clock) { 0 } else { clock }
+}
+
+impl Zone {
+    // Every valuation.
+    pub fn universe() -> Zone
+        ensures { λ r. ⌜ r ≡ universe ⌝ }
+    {
+        let mut cells = [Bound::UNBOUNDED; 25];
+        for p in 0..25 {
+            if (p / 5 == 0) | (p / 5 == p % 5) {
+                cells[p] = Bound::AT_MOST_ZERO;
+            }
+        }
+        Zone { cells: cells }
+    }
+
+    // The zone where the bound of clock i minus clock j holds too.
+    pub fn with_bound(self, i: usize, j: usize, bound: Bound) -> Zone
+        requires { ⌜ (i < 5) × (j < 5) ⌝ }
+        ensures { λ r. ⌜ r ≡ withBound i j bound self ⌝ }
+    {
+        let mut out = self;
+        let old = self.cells[i * 5 + j];
+        out.cells[i * 5 + j] = old.tighter_of(bound);
+        out
+    }
+
+    // The valuations of both.
+    pub fn meet(self, other: Zone) -> Zone
+        ensures { λ r. ⌜ r ≡ met self other ⌝ }
+    {
+        let mut out = self;
+        for p in 0..25 {
+            let a = self.cells[p];
+            let b = other.cells[p];
+            out.cells[p] = a.tighter_of(b);
+        }
+        out
+    }
+
+    // Every bound made at least as tight as the sum of the two through clock m.
+    pub(crate) fn pass(self, m: usize) -> Zone
+        requires { ⌜ (m < 5) × Small (2 ^ 30) self ⌝ }
+        ensures { λ r. ⌜ r ≡ passed m self ⌝ }
+    {
+        let mut out = self;
+        for p in 0..25 {
+            let direct = self.cells[p];
+            let into = self.cells[p / 5 * 5 + m];
+            let onward = self.cells[m * 5 + p % 5];
+            out.cells[p] = direct.tighter_of(into.sum(onward));
+        }
+        out
+    }
+
+    // The same valuations, every bound as tight as any chain of bounds makes it.
+    pub fn tighten(self) -> Zone
+        requires { ⌜ Small (2 ^ 26) self ⌝ }
+        ensures { λ r. ⌜ r ≡ tightened self ⌝ }
+    {
+        let mut out = self;
+        for m in 0..5 {
+            out = out.pass(m);
+        }
+        out
+    }
+
+    // Of a tightened zone, what any delay attains: the upper bounds are dropped.
+    pub fn delay(self) -> Zone
+        ensures { λ r. ⌜ r ≡ delayedSquare self ⌝ }
+    {
+        let mut out = self;
+        for i in 1..5 {
+            out.cells[i * 5] = Bound::UNBOUNDED;
+        }
+        out
+    }
+
+    // Of a tightened zone, the masked clocks set to 0: each has the bounds of clock 0.
+    pub fn reset(self, mask: u32) -> Zone
+        ensures { λ r. ⌜ r ≡ resetSquare mask self ⌝ }
+    {
+        let mut out = self;
+        for p in 0..25 {
+            let i = source_of(mask, p / 5);
+            let j = source_of(mask, p % 5);
+            out.cells[p] = self.cells[i * 5 + j];
+        }
+        out
+    }
+
+    // The valuations that the reset brings into this zone: a bound on a masked clock becomes one on clock 0.
+    pub fn before_reset(self, mask: u32) -> Zone
+        ensures { λ r. ⌜ r ≡ beforeReset mask self ⌝ }
+    {
+        let mut out = Zone::universe();
+        for p in 0..25 {
+            let i = source_of(mask, p / 5);
+            let j = source_of(mask, p % 5);
+            out = out.with_bound(i, j, self.cells[p]);
+        }
+        out
+    }
+
+    // Of a tightened zone: it has no valuation at any scale.
+    pub fn is_empty(self) -> bool
+        ensures { λ r. ⌜ r ≡ empty? self ⌝ }
+    {
+        for i in 0..5 {
+            let own = self.cells[i * 6];
+            if own.negative() {
+                return true;
+            }
+        }
+        false
+    }
+
+    // Of a tightened zone that is not empty: it lies inside the other.
+    pub fn inside(self, other: Zone) -> bool
+        ensures { λ r. ⌜ r ≡ inside? self other ⌝ }
+    {
+        for p in 0..25 {
+            let outer = other.cells[p];
+            if outer.tighter(self.cells[p]) {
+                return false;
+            }
+        }
+        true
+    }
+}
