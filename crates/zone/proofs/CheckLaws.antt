@@ -4,6 +4,7 @@ use mathlib.Core.Path.{_≡_, refl, sym, ap, _∙_}
 use mathlib.Core.Logic.{_↔_, inl, inr}
 use mathlib.Core.Bool.{Bool, true, false}
 use mathlib.Core.List.{List, [], _∷_, _++_}
+use native.Mathlib.Omega.{arith}
 use lib.Dec.{T}
 use Rattle.zone.specs.Checks.{Answer, refused, accepted, Check, Accepts, First}
 
@@ -28,6 +29,10 @@ one-bool X true false p q = absurd (q .1 (p .0 tt))
 one-bool X false true p q = absurd (p .1 (q .0 tt))
 one-bool X false false p q = refl
 
+-- a function with a left inverse tells its arguments apart
+pub tell : {A B : Type 0} (f : A → B) (g : B → A) → ((a : A) → g (f a) ≡ a) → (a b : A) → f a ≡ f b → a ≡ b
+tell f g back a b e = sym (back a) ∙ ap g e ∙ back b
+
 abbrev pub AllHold : List Check → Type 0
 AllHold [] = Unit {0}
 AllHold (c ∷ cs) = c .holds × AllHold cs
@@ -47,3 +52,10 @@ pub first-before : {A : Type 0} (cs ds : List Check) (P Q : A → Type 0) (n p :
 first-before [] ds P Q n p x = absurd x
 first-before (c ∷ cs) ds P Q n p (inl x) = inl (x .0, first-before cs ds P Q n p (x .1))
 first-before {A} (c ∷ cs) ds P Q n p (inr x) = inr x
+
+-- where the answer accepts, the first checks hold, and it is that of those behind them
+pub first-accepted : {A : Type 0} (cs ds : List Check) (P : A → Type 0) (x : A) → First (cs ++ ds) P (accepted x) →
+    AllHold cs × First ds P (accepted x)
+first-accepted [] ds P x f = (tt, f)
+first-accepted (c ∷ cs) ds P x (inl f) = let r = first-accepted cs ds P x (f .1) in ((f .0, r .0), r .1)
+first-accepted {A} (c ∷ cs) ds P x (inr f) = let z : _≡_ {A = ℕ} 0 1 = cc (f .1) in absurd (omega arith)

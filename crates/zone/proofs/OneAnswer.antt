@@ -1,6 +1,6 @@
 -- At most one answer meets the promise of each question about zones. Assumes nothing.
 use Prim.Native.Nat.{ℕ}
-use mathlib.Core.Path.{_≡_, refl, sym, ap, _∙_}
+use mathlib.Core.Path.{_≡_, refl}
 use mathlib.Core.Bool.{Bool, true, false, cond}
 use mathlib.Core.Logic.{_↔_}
 use mathlib.Core.List.{List, _∷_, _++_}
@@ -13,7 +13,7 @@ use Rattle.zone.specs.declared.questions.Emptiness.{Emptiness}
 use Rattle.zone.specs.declared.questions.Emptiness.the-variants as emptiness
 use Rattle.zone.specs.declared.questions.Inclusion.{Inclusion}
 use Rattle.zone.specs.declared.questions.Inclusion.the-variants as inclusion
-use Rattle.zone.proofs.CheckLaws.{first-one, one-bool}
+use Rattle.zone.proofs.CheckLaws.{first-one, one-bool, tell}
 
 -- each case can be told from what it says
 emptinessOf : Answer Bool → Emptiness
@@ -40,10 +40,6 @@ told-inclusion inclusion.NotInside = refl
 told-inclusion inclusion.BadClocks = refl
 told-inclusion (inclusion.BadFirst p) = refl
 told-inclusion (inclusion.BadSecond p) = refl
-
--- a function with a left inverse tells its arguments apart
-tell : {A B : Type 0} (f : A → B) (g : B → A) → ((a : A) → g (f a) ≡ a) → (a b : A) → f a ≡ f b → a ≡ b
-tell f g back a b e = sym (back a) ∙ ap g e ∙ back b
 
 pub empty-one : (C : ℕ) (words : List ℕ) (a b : Emptiness) → AskedEmpty C words (emptinessAnswer a) → AskedEmpty C words (emptinessAnswer b) → a ≡ b
 empty-one C words a b p q =

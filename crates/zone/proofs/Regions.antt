@@ -159,18 +159,31 @@ stands-tightened {z = z} s = record {
 }
 
 -- ---- "empty": a negative diagonal after tightening
+-- a valuation of a region at some scale
+pub record Some (R : Region) : Type 0 where
+  pub scale : ℕ
+  pub positive : 1 ≤ scale
+  pub valuation : Valuation
+  pub holds : R scale valuation
+
 module _ {R : Region} {z : Square} (s : Stands R z) where
   tightened-ok : empty? (tightened z) ≡ false → Ok bounds 5 (close bounds 5 (tableOf z))
   tightened-ok e = rw (table-tightened z) at (nonempty-ok (tightened z) e)
 
-  -- there is a valuation at some scale
-  pub empty-no : empty? (tightened z) ≡ false → Empty R → ⊥
+  pub some : empty? (tightened z) ≡ false → Some R
   unfolding inSquare
-  empty-no e m = m .at (p .k) (p .k₁) (p .v)
-      (s .out (p .k) (p .k₁) (p .v) (rw (read-same (p .v) (p .v₀)) (in-close bounds 5 (tableOf z) (p .k₁) (p .holds))))
+  some e = record {
+    scale = p .k;
+    positive = p .k₁;
+    valuation = p .v;
+    holds = s .out (p .k) (p .k₁) (p .v) (rw (read-same (p .v) (p .v₀)) (in-close bounds 5 (tableOf z) (p .k₁) (p .holds)));
+  }
     where
       p : Point bounds 5 (close bounds 5 (tableOf z))
       p = point bounds (omega arith) (good-close bounds (s .based) (tightened-ok e))
+
+  pub empty-no : empty? (tightened z) ≡ false → Empty R → ⊥
+  empty-no e m = let p : Some R = some e in m .at (p .scale) (p .positive) (p .valuation) (p .holds)
 
   pub empty-yes : empty? (tightened z) ≡ true → Empty R
   unfolding inSquare

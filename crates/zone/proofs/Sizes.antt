@@ -114,7 +114,7 @@ pub small-tightened : {n : ℕ} (z : Square) → Small n z → Small (32 * n) (t
 small-tightened z s = small-passedBelow 5 z s
 
 -- ---- a table that is read from bound words
-small-withWord : {n : ℕ} (w : ℕ) (z : Square) → 4096 ≤ n → Small n z → Small n (withWord w z)
+pub small-withWord : {n : ℕ} (w : ℕ) (z : Square) → 4096 ≤ n → Small n z → Small n (withWord w z)
 unfolding withWord
 small-withWord w z h s =
     let d = number-small w in small-withBound z s (boundOf w .i) (boundOf w .j) (cellOf (boundOf w)) (omega arith)

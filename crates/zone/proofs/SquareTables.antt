@@ -2,7 +2,6 @@
 use Prim.Native.Nat.{ℕ, zero, suc, _+_, _*_, _/_, _%_, _<_, _≤_}
 use mathlib.Core.Path.{_≡_, refl, sym, ap, ap₂, _∙_, fun-ext, subst, subst₂}
 use mathlib.Core.Bool.{Bool, true, false, not, cond, _&&_, _||_}
-use native.Mathlib.Nat as N
 use native.Mathlib.Omega.{arith}
 use lib.Dec.{T, eqb, eqb→eq, eqb·suc-zero, ltb, ltb→lt}
 use borrow.Author.Tests.{lt-ltb, eqb-false, not-true, not-false}

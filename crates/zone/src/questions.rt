@@ -51,11 +51,7 @@ pub(crate) fn read_zone(clocks: u32, list: &[u32]) -> ZoneRead
                 zone: zone,
             };
         }
-        zone = zone.with_bound(
-            words::first_clock(word) as usize,
-            words::second_clock(word) as usize,
-            words::bound_of(word),
-        );
+        zone = words::with_word(zone, word);
     }
     ZoneRead {
         good: true,

@@ -1,7 +1,9 @@
 ghost use mathlib.Core.Path.{_≡_};
 ghost use Rattle.zone.specs.Words.{kind, boundOf, boundFields?, goodBound?};
-ghost use Rattle.zone.specs.Reading.{cellOf};
+ghost use Prim.Native.Nat.{_<_};
+ghost use Rattle.zone.specs.Reading.{cellOf, withWord};
 use crate::bounds::Bound;
+use crate::zones::Zone;
 
 // The top four bits of a word.
 pub fn kind_of(word: u32) -> u32
@@ -49,4 +51,16 @@ pub fn good_bound(clocks: u32, word: u32) -> bool
     ensures { λ r. ⌜ r ≡ goodBound? clocks word ⌝ }
 {
     (kind_of(word) == 5) & bound_fields(clocks, word)
+}
+
+// The zone where the bound of a bound word holds too.
+pub fn with_word(zone: Zone, word: u32) -> Zone
+    requires { ⌜ (boundOf word .i < 5) × (boundOf word .j < 5) ⌝ }
+    ensures { λ r. ⌜ r ≡ withWord word zone ⌝ }
+{
+    zone.with_bound(
+        first_clock(word) as usize,
+        second_clock(word) as usize,
+        bound_of(word),
+    )
 }

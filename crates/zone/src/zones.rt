@@ -49,7 +49,7 @@ impl Zone {
     }
 
     // The zone where the bound of clock i minus clock j holds too.
-    pub fn with_bound(self, i: usize, j: usize, bound: Bound) -> Zone
+    pub(crate) fn with_bound(self, i: usize, j: usize, bound: Bound) -> Zone
         requires { ⌜ (i < 5) × (j < 5) ⌝ }
         ensures { λ r. ⌜ r ≡ withBound i j bound self ⌝ }
     {

@@ -6,7 +6,7 @@ use mathlib.Core.Path.{_≡_, subst₂}
 use native.Mathlib.Omega.{arith}
 use Rattle.zone.proofs.Theory.BoundLaws.{BoundLaws}
 use Rattle.zone.proofs.Theory.Tables.{Table, Ok, close, close-old, meet, meet-left}
-use Rattle.zone.proofs.Theory.Meaning.{In, close-in, in-close, diagonal, meet-in, in-meet-left, in-meet-right}
+use Rattle.zone.proofs.Theory.Meaning.{In, close-in, in-close, meet-in, in-meet-left, in-meet-right}
 use Rattle.zone.proofs.Theory.Meaning.{Based, close-based, meet-based, Good, good-close}
 use Rattle.zone.proofs.Theory.Restore.{Point, point}
 use Rattle.zone.proofs.Theory.Inside.{bound-least}

@@ -3,7 +3,7 @@
 -- nothing.
 use Prim.Native.Nat.{ℕ, zero, _*_, _≤_, _<_}
 use mathlib.Core.Path.{_≡_, refl, sym, ap, _∙_}
-use mathlib.Core.Bool.{Bool, true, false, not, cond}
+use mathlib.Core.Bool.{Bool, true, false, cond}
 use native.Mathlib.Nat as N
 use native.Mathlib.Omega.{arith}
 use Rattle.zone.proofs.Theory.BoundLaws.{BoundLaws}

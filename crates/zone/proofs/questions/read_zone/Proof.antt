@@ -7,7 +7,7 @@ use borrow.Author.Tests.{not-true, not-false}
 use lib.ListN.{length, drop, getD}
 use Rattle.zone.specs.Words.{goodBound?}
 use Rattle.zone.specs.Squares.{universe}
-use Rattle.zone.specs.Reading.{readFrom, readZone, withWord}
+use Rattle.zone.specs.Reading.{readFrom, readZone}
 use Rattle.zone.proofs.ReadLaws.{loop-end, loop-bad, loop-good}
 use Rattle.zone.proofs.WordLaws.{good-first, good-second}
 use Rattle.zone.proofs.questions.read_zone.Statement.{statement}
@@ -37,16 +37,6 @@ good c = sym (c .before .good-bound .ensures) ∙ not-false _ (c .if1 .left)
 below-five : (c : tie.Else1 Inv-loop μ-loop) {k : ℕ} → k ≤ clocks c → k < 5
 below-five c h = omega arith
 
--- the zone with the word's bound
-added :
-    (c : tie.After-with-bound Inv-loop μ-loop) →
-    let past = c .before .before .before .before in
-    c .with-bound .result ≡ withWord (word past) (turn past .loop .zone)
-unfolding withWord
-added c =
-    c .with-bound .ensures
-    ∙ rw (c .before .before .before .first-clock .ensures, c .before .before .second-clock .ensures, c .before .bound-of .ensures)
-
 universe-requires : tie.Need-universe-requires Inv-loop μ-loop
 universe-requires c κs = search needs
 
@@ -68,27 +58,8 @@ returns c =
     let turn = c .before .before .before .before .loop in
     loop-bad _ _ (turn .at) _ (omega arith) (sym (c .before .good-bound .ensures) ∙ not-true _ (c .if1 .taken)) ∙ sym (turn .inv .1)
 
-first-clock-requires : tie.Need-first-clock-requires Inv-loop μ-loop
-first-clock-requires c κs = search needs
-
-cast-with-bound : tie.Need-cast-with-bound Inv-loop μ-loop
-cast-with-bound c = search needs
-
-second-clock-requires : tie.Need-second-clock-requires Inv-loop μ-loop
-second-clock-requires c κs = search needs
-
-cast-with-bound-2 : tie.Need-cast-with-bound-2 Inv-loop μ-loop
-cast-with-bound-2 c = search needs
-
-bound-of-requires : tie.Need-bound-of-requires Inv-loop μ-loop
-bound-of-requires c κs = search needs
-
-with-bound-requires : tie.Need-with-bound-requires Inv-loop μ-loop
-with-bound-requires c κs =
-    let past = c .before .before .before in (
-      rw (c .before .before .first-clock .ensures) (below-five past (good-first _ _ (good past))),
-      rw (c .before .second-clock .ensures) (below-five past (good-second _ _ (good past))),
-    )
+with-word-requires : tie.Need-with-word-requires Inv-loop μ-loop
+with-word-requires c κs = (below-five c (good-first _ _ (good c)), below-five c (good-second _ _ (good c)))
 
 add-at : tie.Need-add-at Inv-loop μ-loop
 add-at c = search needs
@@ -98,10 +69,10 @@ loop-less c = search needs
 
 loop-again : tie.Need-loop-again Inv-loop μ-loop
 loop-again c =
-    let past = c .before .before .before .before in (
+    let past = c .before in (
       omega arith,
       turn past .loop .inv .1 ∙ loop-good _ _ _ _ (past .before .before .before .loop-test .taken) (good past)
-          ∙ ap (readFrom _ _ _) (sym (added c)),
+          ∙ ap (readFrom _ _ _) (sym (c .with-word .ensures)),
     )
 
 returns-2 : tie.Need-returns-2 Inv-loop μ-loop
@@ -120,12 +91,7 @@ read-zone-spec =
     shared-slice-read-word
     good-bound-requires
     returns
-    first-clock-requires
-    cast-with-bound
-    second-clock-requires
-    cast-with-bound-2
-    bound-of-requires
-    with-bound-requires
+    with-word-requires
     add-at
     loop-less
     loop-again

@@ -1,0 +1,265 @@
+-- The pass decides the checks 1 to 4. Assumes nothing.
+use Prim.Native.Nat.{ℕ, suc, _+_, _≤_}
+use mathlib.Core.Path.{_≡_, refl, sym, ap, _∙_}
+use mathlib.Core.Logic.{_⊎_, inl, inr}
+use mathlib.Core.Bool.{Bool, true, false, cond}
+use mathlib.Core.List.{List, [], _∷_, _++_}
+use native.Mathlib.Omega.{arith}
+use borrow.Author.Tests.{eqb-true, eq-eqb, ne-eqb}
+use lib.Dec.{eqb}
+use lib.ListN.{getD, length, replicate}
+use Rattle.zone.specs.Words.{kind}
+use Rattle.zone.specs.Checks.{Answer, Check, test, First}
+use Rattle.zone.specs.Squares.{universe}
+use Rattle.zone.specs.declared.zones.Zone.{Zone as Square}
+use Rattle.zone.proofs.Bools.{true-false, false-true}
+use Rattle.model.specs.Kinds.{Kind, none, head, location, action, edge, bound, start, number, is, kindOf}
+use Rattle.model.specs.Grammar.{follows?}
+use Rattle.model.specs.Fields.{clocksOf, denominatorOf, weightOf, fields?}
+use Rattle.model.specs.Reading.{opener, count, lastEdges, weights, limit?, adds?, wordChecks, wordsChecks, modelAnswer}
+use Rattle.model.specs.Scan.{nothing, fieldsAt?, limitAt?, addsAt?, faultAt, lastFault, seenWithKind, seenWith}
+use Rattle.model.specs.Index.{unlessFault, scanFrom, scanned, emptyIndex, indexWith, zonesWith, answerOf}
+use Rattle.model.specs.declared.seen.Seen.{Seen}
+use Rattle.model.specs.declared.seen.Fault.{Fault}
+use Rattle.model.specs.declared.seen.Fault.the-variants as fault
+use Rattle.model.specs.declared.index.Index.{Index}
+use Rattle.model.specs.declared.scan.Scanned.{Scanned}
+use Rattle.model.specs.declared.read.Counts.{Counts}
+use Rattle.model.specs.declared.read.ModelAnswer.{ModelAnswer}
+use Rattle.model.proofs.Run.{goes}
+use Rattle.model.proofs.KindLaws.{kind-is, head-first, before-bound}
+use Rattle.model.proofs.Limits.{Passes, passes, firstFault}
+
+-- ---- what the words before come to
+
+-- the numbers of what stands before; `before` lists those words, the last one first
+pub record Tallies (before : List ℕ) (s : Seen) : Type 0 where
+  pub opener : s .opener ≡ opener before
+  pub locations : s .locations ≡ count location before
+  pub actions : s .actions ≡ count action before
+  pub edges : s .edges ≡ count edge before
+  pub run : s .run ≡ length (lastEdges before)
+  pub weights : s .weights ≡ weights (lastEdges before)
+
+-- a head with C and D stands before
+pub record Headed (C D : ℕ) (s : Seen) : Type 0 where
+  pub clocks : s .clocks ≡ C
+  pub denominator : s .denominator ≡ D
+  pub opened : 1 ≤ s .opener
+
+-- s is what the words before come to, in a file whose first word gives C and D
+pub record Agrees (C D : ℕ) (before : List ℕ) (s : Seen) : Type 0 where
+  pub tallies : Tallies before s
+  pub headed : (before ≡ []) ⊎ Headed C D s
+
+pub agrees-nothing : (C D : ℕ) → Agrees C D [] nothing
+unfolding opener count lastEdges weights
+agrees-nothing C D = record { tallies = omega arith; headed = inl refl }
+
+-- ---- a word more
+
+-- what a word of the kind with the number n adds
+record Added (n : ℕ) (before : List ℕ) (w : ℕ) : Type 0 where
+  opener : opener (w ∷ before) ≡ cond (eqb n 5) (opener before) n
+  locations : count location (w ∷ before) ≡ cond (eqb n 2) 1 0 + count location before
+  actions : count action (w ∷ before) ≡ cond (eqb n 3) 1 0 + count action before
+  edges : count edge (w ∷ before) ≡ cond (eqb n 4) 1 0 + count edge before
+  run : length (lastEdges (w ∷ before)) ≡ cond (eqb n 4) (suc (length (lastEdges before))) 0
+  weights : weights (lastEdges (w ∷ before)) ≡ cond (eqb n 4) (weightOf w + weights (lastEdges before)) 0
+
+added : (n : ℕ) (before : List ℕ) (w : ℕ) → kind w ≡ n → Added n before w
+unfolding opener count lastEdges weights
+added n before w e =
+    record {
+      opener = rw e;
+      locations = rw e;
+      actions = rw e;
+      edges = rw e;
+      run = rw e (by-bool (eqb n 4) length);
+      weights = rw e (by-bool (eqb n 4) weights);
+    }
+  where
+    by-bool : (c : Bool) (f : List ℕ → ℕ) → f (cond c (w ∷ lastEdges before) []) ≡ cond c (f (w ∷ lastEdges before)) (f [])
+    by-bool true f = refl
+    by-bool false f = refl
+
+-- edges of the last action stand only behind an opener that is an edge
+no-edges : (before : List ℕ) → (opener before ≡ 4 → ⊥) → lastEdges before ≡ []
+unfolding lastEdges
+no-edges [] h = refl
+no-edges (w ∷ before) h = by-bool (is edge w) λ e. h (added 4 before w (eqb-true (kind w) 4 e) .opener)
+  where
+    by-bool : (c : Bool) → (c ≡ true → ⊥) → cond c (w ∷ lastEdges before) [] ≡ []
+    by-bool true f = absurd (f refl)
+    by-bool false f = refl
+
+no-run : (before : List ℕ) → (opener before ≡ 4 → ⊥) → (length (lastEdges before) ≡ 0) × (weights (lastEdges before) ≡ 0)
+unfolding weights
+no-run before h = (ap length (no-edges before h), ap weights (no-edges before h))
+
+-- the word is the first and a head, or the head stands before it
+pub data Begins (C D : ℕ) (before : List ℕ) (s : Seen) (n : ℕ) : Type 0 where
+  here : before ≡ [] → s .opener ≡ 0 → n ≡ 1 → Begins C D before s n
+  there : Headed C D s → (n ≡ 1 → ⊥) → Begins C D before s n
+
+pub begins : (C D : ℕ) (before : List ℕ) (s : Seen) (n : ℕ) → Agrees C D before s → follows? (s .opener) n ≡ true → Begins C D before s n
+unfolding opener
+begins C D before s n a f = by (a .headed)
+  where
+    same : eqb (s .opener) 0 ≡ eqb n 1
+    same = head-first (s .opener) n f
+
+    by : (before ≡ []) ⊎ Headed C D s → Begins C D before s n
+    by (inl e) =
+        let o : s .opener ≡ 0 = a .tallies .opener ∙ ap opener e in here e o (eqb-true n 1 (sym same ∙ eq-eqb (s .opener) 0 o))
+    by (inr h) =
+        let apart : eqb (s .opener) 0 ≡ false = ne-eqb (s .opener) 0 (λ e. omega arith) in
+        there h λ e. true-false (sym (eq-eqb n 1 e) ∙ sym same ∙ apart)
+
+tallies-kind : (k : Kind) (before : List ℕ) (s : Seen) (w p : ℕ) → Tallies before s → Passes k s w → Tallies (w ∷ before) (seenWithKind k s w p)
+unfolding fields? seenWithKind
+tallies-kind none before s w p h g = false-true (g .fields)
+tallies-kind head before s w p h g =
+    let first : s .opener ≡ 0 = eqb-true (s .opener) 0 (head-first (s .opener) 1 (g .follows)) in
+    let zero = no-run before (λ e. omega arith) in
+    let a = added 1 before w (g .named) in
+    omega arith
+tallies-kind location before s w p h g = let a = added 2 before w (g .named) in omega arith
+tallies-kind action before s w p h g = let a = added 3 before w (g .named) in omega arith
+tallies-kind edge before s w p h g = let a = added 4 before w (g .named) in omega arith
+tallies-kind bound before s w p h g =
+    let zero = no-run before (λ e. before-bound (s .opener) (g .follows) (h .opener ∙ e)) in
+    let a = added 5 before w (g .named) in
+    omega arith
+tallies-kind start before s w p h g = let a = added 6 before w (g .named) in omega arith
+
+pub head-before : {C D : ℕ} {before : List ℕ} {s : Seen} {n : ℕ} → Begins C D before s n → (n ≡ 1 → ⊥) → Headed C D s
+head-before (here e o n) m = absurd (m n)
+head-before (there h n) m = h
+
+-- C and D are those of the word w, if it is the first
+abbrev pub Heads : ℕ → ℕ → List ℕ → ℕ → Type 0
+Heads C D before w = before ≡ [] → (clocksOf w ≡ C) × (denominatorOf w ≡ D)
+
+headed-kind :
+    (k : Kind) (C D : ℕ) (before : List ℕ) (s : Seen) (w p : ℕ) → Passes k s w → Heads C D before w → Begins C D before s (number k) →
+    Headed C D (seenWithKind k s w p)
+unfolding fields? seenWithKind
+headed-kind none C D before s w p g first b = false-true (g .fields)
+headed-kind head C D before s w p g first (here e o n) = let both = first e in omega arith
+headed-kind head C D before s w p g first (there h n) = absurd (n refl)
+headed-kind location C D before s w p g first b = let h = head-before b (λ n. omega arith) in omega arith
+headed-kind action C D before s w p g first b = let h = head-before b (λ n. omega arith) in omega arith
+headed-kind edge C D before s w p g first b = let h = head-before b (λ n. omega arith) in omega arith
+headed-kind bound C D before s w p g first b = head-before b (λ n. omega arith)
+headed-kind start C D before s w p g first b = let h = head-before b (λ n. omega arith) in omega arith
+
+pub agrees-with :
+    (C D : ℕ) (before : List ℕ) (s : Seen) (w p : ℕ) → Agrees C D before s → faultAt s w ≡ fault.None → Heads C D before w →
+    Agrees C D (w ∷ before) (seenWith s w p)
+unfolding seenWith
+agrees-with C D before s w p a f first =
+    let g = passes s w f in
+    let b = begins C D before s (number (kindOf w)) a (g .follows) in
+    record {
+      tallies = tallies-kind (kindOf w) before s w p (a .tallies) g;
+      headed = inr (headed-kind (kindOf w) C D before s w p g first b);
+    }
+
+-- ---- a word's checks and its fault
+
+-- the four tests on a word behind the words before
+module _ (C D : ℕ) (before : List ℕ) (w : ℕ) where
+  abbrev kind? : Bool
+  kind? = follows? (opener before) (kind w)
+
+  abbrev field? : Bool
+  field? = fields? (kindOf w) C D (count location before) (opener before) w
+
+  abbrev under? : Bool
+  under? = limit? (kindOf w) (count location before) (count action before) (length (lastEdges before))
+
+  abbrev sum? : Bool
+  sum? = adds? D (opener before) (weights (lastEdges before)) w
+
+same-tests :
+    (C D : ℕ) (before : List ℕ) (s : Seen) (w : ℕ) → Tallies before s → Begins C D before s (kind w) →
+    (fieldsAt? s w ≡ field? C D before w) × (addsAt? s w ≡ sum? C D before w)
+unfolding fieldsAt? addsAt? fields? adds?
+same-tests C D before s w t (here e o n) =
+    let o′ : opener before ≡ 0 = sym (t .opener) ∙ o in (rw (kind-is head w n), rw (o, o′))
+same-tests C D before s w t (there h n) = (cc, cc)
+
+same-fault :
+    (a b c d a′ b′ c′ d′ : Bool) → a ≡ a′ → c ≡ c′ → (a ≡ true → (b ≡ b′) × (d ≡ d′)) → firstFault a b c d ≡ firstFault a′ b′ c′ d′
+same-fault true b c d a′ b′ c′ d′ e f h = let g = h refl in rw (← e, f, g .0, g .1)
+same-fault false b c d a′ b′ c′ d′ e f h = rw (← e)
+
+fault-is :
+    (C D : ℕ) (before : List ℕ) (s : Seen) (w : ℕ) → Agrees C D before s →
+    faultAt s w ≡ firstFault (kind? C D before w) (field? C D before w) (under? C D before w) (sum? C D before w)
+unfolding faultAt limitAt?
+fault-is C D before s w a =
+    let t = a .tallies in
+    same-fault (follows? (s .opener) (kind w)) (fieldsAt? s w) (limitAt? s w) (addsAt? s w) (kind? C D before w) (field? C D before w)
+    (under? C D before w) (sum? C D before w) (cc) (cc) λ f. same-tests C D before s w t (begins C D before s (kind w) a f)
+
+-- ---- the pass
+
+-- the answer of a pass, if `whole` is that on the whole file
+abbrev answered : ModelAnswer → Scanned → Answer Counts
+answered whole r = modelAnswer (answerOf (r .fault) (r .place) whole)
+
+abbrev stopped : Seen → Index → List Square → ℕ → Fault → Scanned
+stopped s x zs p f = record { fault = f; place = p; seen = s; index = x; zones = zs }
+
+module _ (more : List Check) (P : Counts → Type 0) (whole : ModelAnswer) where
+  -- at a word
+  step-first :
+      (a b c d : Bool) (f : Fault) → f ≡ firstFault a b c d → (s : Seen) (x : Index) (zs : List Square) (p : ℕ) (go : Scanned) →
+      (f ≡ fault.None → First more P (answered whole go)) →
+      First (test 1 p a ∷ test 2 p b ∷ test 3 p c ∷ test 4 p d ∷ more) P (answered whole (unlessFault f (stopped s x zs p f) go))
+  unfolding unlessFault answerOf modelAnswer
+  step-first true true true true f e s x zs p go h = rw e (inl (tt, inl (tt, inl (tt, inl (tt, h e)))))
+  step-first true true true false f e s x zs p go h = rw e (inl (tt, inl (tt, inl (tt, inr (λ t. t, refl)))))
+  step-first true true false d f e s x zs p go h = rw e (inl (tt, inl (tt, inr (λ t. t, refl))))
+  step-first true false c d f e s x zs p go h = rw e (inl (tt, inr (λ t. t, refl)))
+  step-first false b c d f e s x zs p go h = rw e (inr (λ t. t, refl))
+
+  -- at the end
+  last-first :
+      (c : Bool) (f : Fault) → f ≡ cond c fault.None fault.Kind → (p : ℕ) → (f ≡ fault.None → First more P (modelAnswer whole)) →
+      First (test 1 p c ∷ more) P (modelAnswer (answerOf f p whole))
+  unfolding answerOf modelAnswer
+  last-first true f e p h = rw e (inl (tt, h e))
+  last-first false f e p h = rw e (inr (λ t. t, refl))
+
+words-from :
+    (C D : ℕ) (before words : List ℕ) (s : Seen) (x : Index) (zs : List Square) → Agrees C D before s → Heads C D before (getD words 0 0) →
+    (more : List Check) (P : Counts → Type 0) (whole : ModelAnswer) →
+    (scanFrom s x zs (length before) words .fault ≡ fault.None → First more P (modelAnswer whole)) →
+    First (wordsChecks C D before words ++ more) P (answered whole (scanFrom s x zs (length before) words))
+unfolding scanFrom wordsChecks wordChecks lastFault
+words-from C D before [] s x zs a first more P whole h =
+    last-first more P whole (eqb (opener before) 6) (lastFault s) (rw (a .tallies .opener)) (length before) h
+words-from C D before (w ∷ ws) s x zs a first more P whole h =
+    let p : ℕ = length before in
+    let go : Scanned = scanFrom (seenWith s w p) (indexWith s w p x) (zonesWith s w zs) (suc p) ws in
+    step-first (wordsChecks C D (w ∷ before) ws ++ more) P whole (kind? C D before w) (field? C D before w) (under? C D before w)
+    (sum? C D before w) (faultAt s w) (fault-is C D before s w a) s x zs p go λ f.
+    words-from C D (w ∷ before) ws (seenWith s w p) (indexWith s w p x) (zonesWith s w zs) (agrees-with C D before s w p a f first)
+    (λ e. absurd (omega (arith, ap length e))) more P whole
+    λ g. h (ap (λ (r : Scanned). r .fault) (goes (faultAt s w) (stopped s x zs p (faultAt s w)) go f) ∙ g)
+
+-- the checks 1 to 4 of a file
+abbrev pub checksOf : List ℕ → List Check
+checksOf words = wordsChecks (clocksOf (getD words 0 0)) (denominatorOf (getD words 0 0)) [] words
+
+pub words-first :
+    (words : List ℕ) (more : List Check) (P : Counts → Type 0) (whole : ModelAnswer) →
+    (scanned words .fault ≡ fault.None → First more P (modelAnswer whole)) →
+    First (checksOf words ++ more) P (modelAnswer (answerOf (scanned words .fault) (scanned words .place) whole))
+unfolding scanned
+words-first words =
+    words-from (clocksOf (getD words 0 0)) (denominatorOf (getD words 0 0)) [] words nothing emptyIndex (replicate 49 universe)
+    (agrees-nothing _ _) (λ e. (refl, refl))

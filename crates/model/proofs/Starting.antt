@@ -1,0 +1,54 @@
+-- Refusal 6: the table of the start valuations is not empty exactly where there is a start state at some scale. Assumes nothing.
+use Prim.Native.Nat.{_<_}
+use mathlib.Core.Path.{_≡_, refl, subst}
+use mathlib.Core.Bool.{true, false}
+use mathlib.Core.List.{List}
+use lib.ListN.{getD, length}
+use Rattle.zone.specs.Scale.{Region, within}
+use Rattle.zone.specs.Squares.{universe, met, empty?}
+use Rattle.zone.specs.declared.zones.Zone.{Zone as Square}
+use Rattle.zone.proofs.Regions.{Stands, inBoth, Some, some, stands-met, stands-tightened, empty-yes}
+use Rattle.model.specs.Model.{Model}
+use Rattle.model.specs.States.{locationAt, HasStart}
+use Rattle.model.specs.Index.{startSquare}
+use Rattle.model.specs.Indexed.{withBounds}
+use Rattle.model.proofs.ZoneLaws.{stands-bounds}
+use Rattle.model.proofs.GoodModel.{GoodModel}
+
+-- the start valuations: in the start location's invariant and in the start bounds
+abbrev pub startRegion : Model → Region
+startRegion M = inBoth (within (locationAt M (M .start) .invariant)) (within (M .startBounds))
+
+module _
+    (M : Model) (zs : List Square) (good : GoodModel M)
+    (invariant : getD zs (M .start) universe ≡ withBounds (locationAt M (M .start) .invariant) universe)
+    (startBounds : getD zs 48 universe ≡ withBounds (M .startBounds) universe)
+  where
+    pub start-met : Stands (startRegion M) (met (getD zs (M .start) universe) (getD zs 48 universe))
+    start-met =
+        rw (invariant, startBounds)
+        (stands-met (stands-bounds (locationAt M (M .start) .invariant) (good .invariants (M .start)))
+        (stands-bounds (M .startBounds) (good .startBounds)))
+
+    pub start-stands : Stands (startRegion M) (startSquare (M .start) zs)
+    unfolding startSquare
+    start-stands = stands-tightened start-met
+
+    pub start-yes : M .start < length (M .locations) → empty? (startSquare (M .start) zs) ≡ false → HasStart M
+    unfolding startSquare
+    start-yes h e =
+        let p : Some (startRegion M) = some start-met e in
+        record {
+          scale = p .scale;
+          positive = p .positive;
+          state = record { location = M .start; valuation = p .valuation };
+          starts = record { location = refl; state = record { exists = h; invariant = p .holds .0 }; bounds = p .holds .1 };
+        }
+
+    pub start-no : empty? (startSquare (M .start) zs) ≡ true → HasStart M → ⊥
+    unfolding startSquare
+    start-no e s =
+        empty-yes start-met e .at (s .scale) (s .positive) (s .state .valuation) (
+          subst (λ l. within (locationAt M l .invariant) (s .scale) (s .state .valuation)) (s .starts .location) (s .starts .state .invariant),
+          s .starts .bounds,
+        )

@@ -1,0 +1,9 @@
+use Rattle.model.proofs.FieldLaws.{lowest}
+use Rattle.model.proofs.fields.action_fields.Statement.{statement}
+use Rattle.model.proofs.fields.action_fields.Tie as tie
+
+returns : tie.Need-returns
+returns c = rw (lowest (c .args .word) 268435456)
+
+pub action-fields-spec : {M : Type 1} → statement M
+action-fields-spec = tie.close (tie.spec returns)

@@ -1,0 +1,80 @@
+use mathlib.Core.Path.{_≡_}
+use mathlib.Core.Bool.{true}
+use borrow.Author.Needs.{needs}
+use Rattle.zone.specs.Words.{kind}
+use Rattle.model.specs.Grammar.{follows?}
+use Rattle.model.specs.Scan.{faultAt}
+use Rattle.model.proofs.WordChecks.{failed, passed}
+use Rattle.model.proofs.seen.Seen.fault.Statement.{statement}
+use Rattle.model.proofs.seen.Seen.fault.Tie as tie
+
+kind-of-requires : tie.Need-kind-of-requires
+kind-of-requires c κs = search needs
+
+may-follow-requires : tie.Need-may-follow-requires
+may-follow-requires c κs = search needs
+
+returns : tie.Need-returns
+unfolding faultAt
+returns c = rw (← c .before .before .kind-of .ensures, failed (c .before .may-follow .ensures) (c .if1 .taken))
+
+-- past the first check
+follows : (c : tie.Else1) → follows? (c .before .before .before .args .self .opener) (kind (c .before .before .before .args .word)) ≡ true
+follows c = rw (← c .before .before .kind-of .ensures) (passed (c .before .may-follow .ensures) (c .if1 .left))
+
+fields-requires : tie.Need-fields-requires
+fields-requires c κs = search needs
+
+returns-2 : tie.Need-returns-2
+unfolding faultAt
+returns-2 c = rw (follows (c .before .before), failed (c .before .fields .ensures) (c .if2 .taken))
+
+limit-requires : tie.Need-limit-requires
+limit-requires c κs = search needs
+
+returns-3 : tie.Need-returns-3
+unfolding faultAt
+returns-3 c =
+    rw (
+      follows (c .before .before .before .before),
+      passed (c .before .before .before .fields .ensures) (c .before .before .if2 .left),
+      failed (c .before .limit .ensures) (c .if3 .taken),
+    )
+
+adds-requires : tie.Need-adds-requires
+adds-requires c κs = search needs
+
+returns-4 : tie.Need-returns-4
+unfolding faultAt
+returns-4 c =
+    rw (
+      follows (c .before .before .before .before .before .before),
+      passed (c .before .before .before .before .before .fields .ensures) (c .before .before .before .before .if2 .left),
+      passed (c .before .before .before .limit .ensures) (c .before .before .if3 .left),
+      failed (c .before .adds .ensures) (c .if4 .taken),
+    )
+
+returns-5 : tie.Need-returns-5
+unfolding faultAt
+returns-5 c =
+    rw (
+      follows (c .before .before .before .before .before .before),
+      passed (c .before .before .before .before .before .fields .ensures) (c .before .before .before .before .if2 .left),
+      passed (c .before .before .before .limit .ensures) (c .before .before .if3 .left),
+      passed (c .before .adds .ensures) (c .if4 .left),
+    )
+
+pub fault-spec : {M : Type 1} → statement M
+fault-spec =
+    tie.close
+    (tie.spec
+    kind-of-requires
+    may-follow-requires
+    returns
+    fields-requires
+    returns-2
+    limit-requires
+    returns-3
+    adds-requires
+    returns-4
+    returns-5)

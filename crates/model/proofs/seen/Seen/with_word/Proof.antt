@@ -1,0 +1,71 @@
+use Prim.Native.Nat.{ℕ}
+use mathlib.Core.Path.{_≡_, sym, _∙_}
+use borrow.Author.Needs.{needs}
+use Rattle.zone.specs.Words.{kind}
+use Rattle.model.specs.Kinds.{head, location, action, edge, start}
+use Rattle.model.specs.Scan.{seenWithKind}
+use Rattle.model.proofs.ScanLaws.{seen-step, seen-stays}
+use Rattle.model.proofs.seen.Seen.with_word.Statement.{statement}
+use Rattle.model.proofs.seen.Seen.with_word.Tie as tie
+
+kind-of-requires : tie.Need-kind-of-requires
+kind-of-requires c κs = search needs
+
+with-head-requires : tie.Need-with-head-requires
+with-head-requires c κs = search needs
+
+with-location-requires : tie.Need-with-location-requires
+with-location-requires c κs = search needs
+
+with-action-requires : tie.Need-with-action-requires
+with-action-requires c κs = search needs
+
+with-edge-requires : tie.Need-with-edge-requires
+with-edge-requires c κs = search needs
+
+with-start-requires : tie.Need-with-start-requires
+with-start-requires c κs = search needs
+
+returns : tie.Need-returns
+unfolding seenWithKind
+returns c = c .with-head .ensures ∙ seen-step _ _ _ head (sym (c .before .before .kind-of .ensures) ∙ c .before .match .keys1)
+
+returns-2 : tie.Need-returns-2
+unfolding seenWithKind
+returns-2 c = c .with-location .ensures ∙ seen-step _ _ _ location (sym (c .before .before .kind-of .ensures) ∙ c .before .match .keys2)
+
+returns-3 : tie.Need-returns-3
+unfolding seenWithKind
+returns-3 c = c .with-action .ensures ∙ seen-step _ _ _ action (sym (c .before .before .kind-of .ensures) ∙ c .before .match .keys3)
+
+returns-4 : tie.Need-returns-4
+unfolding seenWithKind
+returns-4 c = c .with-edge .ensures ∙ seen-step _ _ _ edge (sym (c .before .before .kind-of .ensures) ∙ c .before .match .keys4)
+
+returns-5 : tie.Need-returns-5
+unfolding seenWithKind
+returns-5 c = c .with-start .ensures ∙ seen-step _ _ _ start (sym (c .before .before .kind-of .ensures) ∙ c .before .match .keys5)
+
+returns-6 : tie.Need-returns-6
+returns-6 c =
+    let ne : (n : ℕ) → (c .before .kind-of .result ≡ n → ⊥) → kind (c .before .before .args .word) ≡ n → ⊥
+    = λ n h q. h (c .before .kind-of .ensures ∙ q) in
+    let r = c .match .rest in
+    seen-stays _ _ _ (ne 1 (r .0 .0 .0 .0 .1)) (ne 2 (r .0 .0 .0 .1)) (ne 3 (r .0 .0 .1)) (ne 4 (r .0 .1)) (ne 6 (r .1))
+
+pub with-word-spec : {M : Type 1} → statement M
+with-word-spec =
+    tie.close
+    (tie.spec
+    kind-of-requires
+    with-head-requires
+    with-location-requires
+    with-action-requires
+    with-edge-requires
+    with-start-requires
+    returns
+    returns-2
+    returns-3
+    returns-4
+    returns-5
+    returns-6)

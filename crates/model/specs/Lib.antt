@@ -1,0 +1,9 @@
+pub mod Kinds
+pub mod Fields
+pub mod Grammar
+pub mod Model
+pub mod States
+pub mod Reading
+pub mod Scan
+pub mod Index
+pub mod Indexed

@@ -1,0 +1,199 @@
+ghost use mathlib.Core.Path.{_≡_};
+ghost use Rattle.model.specs.Scan.{WithinLimits, fieldsAt?, limitAt?, addsAt?, faultAt, lastFault};
+ghost use Rattle.model.specs.Scan.{withHead, withLocation, withAction, withEdge, withStart, seenWith};
+use crate::fields;
+use crate::kinds;
+use crate::places;
+use zone::words;
+
+// What the words read so far come to, for the checks of the next word and for the index.
+pub(crate) struct Seen {
+    pub opener: u32, // the kind of the last word that is no bound
+    pub clocks: u32, // of the head
+    pub denominator: u32, // of the head
+    pub locations: usize, // how many there are
+    pub actions: usize, // how many there are
+    pub edges: usize, // how many there are
+    pub run: usize, // how many edges the last action has
+    pub weights: u32, // what their weights add to
+    pub slot: usize, // where the zone of the opener stands
+    pub start: u32, // the start's location
+    pub place: usize, // the index of the start word
+}
+
+// The first check that a word fails.
+pub(crate) enum Fault {
+    None,
+    Kind,
+    Field,
+    Limit,
+    Weights,
+}
+
+impl Seen {
+    pub(crate) const NOTHING: Seen = Seen {
+        opener: kinds::NONE,
+        clocks: 0,
+        denominator: 0,
+        locations: 0,
+        actions: 0,
+        edges: 0,
+        run: 0,
+        weights: 0,
+        slot: 0,
+        start: 0,
+        place: 0,
+    };
+
+    // Whether the fields of a word are in their ranges and its spare bits zero.
+    pub(crate) fn fields(self, word: u32) -> bool
+        requires { ⌜ WithinLimits self ⌝ }
+        ensures { λ r. ⌜ r ≡ fieldsAt? self word ⌝ }
+    {
+        let kind = words::kind_of(word);
+        match kind {
+            kinds::HEAD => fields::head_fields(word),
+            kinds::LOCATION => fields::location_fields(word),
+            kinds::ACTION => fields::action_fields(word),
+            kinds::EDGE => fields::edge_fields(self.clocks, self.denominator, word),
+            kinds::BOUND => words::bound_fields(self.clocks, word)
+                & ((self.opener == kinds::START) | fields::one_zero(word)),
+            kinds::START => fields::start_fields(self.locations, word),
+            _ => false,
+        }
+    }
+
+    // Whether one more of the word's kind is within its limit.
+    pub(crate) fn limit(self, word: u32) -> bool
+        ensures { λ r. ⌜ r ≡ limitAt? self word ⌝ }
+    {
+        let kind = words::kind_of(word);
+        match kind {
+            kinds::LOCATION => self.locations < 16,
+            kinds::ACTION => self.actions < 32,
+            kinds::EDGE => self.run < 4,
+            _ => true,
+        }
+    }
+
+    // Whether the weights of the last action add to the denominator, where the word is the one after its last edge.
+    pub(crate) fn adds(self, word: u32) -> bool
+        ensures { λ r. ⌜ r ≡ addsAt? self word ⌝ }
+    {
+        !(self.opener == kinds::EDGE)
+            | (words::kind_of(word) == kinds::EDGE)
+            | (self.weights == self.denominator)
+    }
+
+    // The first check that a word fails.
+    pub(crate) fn fault(self, word: u32) -> Fault
+        requires { ⌜ WithinLimits self ⌝ }
+        ensures { λ r. ⌜ r ≡ faultAt self word ⌝ }
+    {
+        if !kinds::may_follow(self.opener, words::kind_of(word)) {
+            return Fault::Kind;
+        }
+        if !self.fields(word) {
+            return Fault::Field;
+        }
+        if !self.limit(word) {
+            return Fault::Limit;
+        }
+        if !self.adds(word) {
+            return Fault::Weights;
+        }
+        Fault::None
+    }
+
+    // The fault at the end of the words: unless the start was read, a word is missing.
+    pub(crate) fn last_fault(self) -> Fault
+        ensures { λ r. ⌜ r ≡ lastFault self ⌝ }
+    {
+        if self.opener == kinds::START {
+            return Fault::None;
+        }
+        Fault::Kind
+    }
+
+    // With a head word.
+    pub(crate) fn with_head(self, word: u32) -> Seen
+        ensures { λ r. ⌜ r ≡ withHead self word ⌝ }
+    {
+        let mut next = self;
+        next.opener = kinds::HEAD;
+        next.clocks = fields::clocks_of(word);
+        next.denominator = fields::denominator_of(word);
+        next
+    }
+
+    // With one location more.
+    pub(crate) fn with_location(self) -> Seen
+        requires { ⌜ WithinLimits self ⌝ }
+        ensures { λ r. ⌜ r ≡ withLocation self ⌝ }
+    {
+        let mut next = self;
+        next.opener = kinds::LOCATION;
+        next.locations = self.locations + 1;
+        next.run = 0;
+        next.weights = 0;
+        next.slot = self.locations;
+        next
+    }
+
+    // With one action more.
+    pub(crate) fn with_action(self) -> Seen
+        requires { ⌜ WithinLimits self ⌝ }
+        ensures { λ r. ⌜ r ≡ withAction self ⌝ }
+    {
+        let mut next = self;
+        next.opener = kinds::ACTION;
+        next.actions = self.actions + 1;
+        next.run = 0;
+        next.weights = 0;
+        next.slot = places::GUARDS + self.actions;
+        next
+    }
+
+    // With an edge word.
+    pub(crate) fn with_edge(self, word: u32) -> Seen
+        requires { ⌜ WithinLimits self ⌝ }
+        ensures { λ r. ⌜ r ≡ withEdge self word ⌝ }
+    {
+        let mut next = self;
+        next.opener = kinds::EDGE;
+        next.edges = self.edges + 1;
+        next.run = self.run + 1;
+        next.weights = self.weights + fields::weight_of(word);
+        next
+    }
+
+    // With a start word at a place.
+    pub(crate) fn with_start(self, word: u32, place: usize) -> Seen
+        ensures { λ r. ⌜ r ≡ withStart self word place ⌝ }
+    {
+        let mut next = self;
+        next.opener = kinds::START;
+        next.run = 0;
+        next.weights = 0;
+        next.slot = places::START_BOUNDS;
+        next.start = fields::start_of(word);
+        next.place = place;
+        next
+    }
+
+    // With a word at a place. A bound changes nothing here.
+    pub(crate) fn with_word(self, word: u32, place: usize) -> Seen
+        requires { ⌜ WithinLimits self ⌝ }
+        ensures { λ r. ⌜ r ≡ seenWith self word place ⌝ }
+    {
+        let kind = words::kind_of(word);
+        match kind {
+            kinds::HEAD => self.with_head(word),
+            kinds::LOCATION => self.with_location(),
+            kinds::ACTION => self.with_action(),
+            kinds::EDGE => self.with_edge(word),
+            kinds::START => self.with_start(word, place),
+            _ => self,
+        }
+    }
+}
