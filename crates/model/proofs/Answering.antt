@@ -9,10 +9,11 @@ use lib.ListN.{getD, length, replicate, take}
 use Rattle.zone.specs.Checks.{Check, check, First}
 use Rattle.zone.specs.Squares.{universe, empty?}
 use Rattle.zone.specs.declared.zones.Zone.{Zone as Square}
-use Rattle.model.specs.Kinds.{location, edge, start}
+use Rattle.model.specs.Kinds.{location, edge, start, number}
 use Rattle.model.specs.Model.{Model, modelOf}
 use Rattle.model.specs.States.{locationAt, HasStart}
-use Rattle.model.specs.Reading.{count, edgeChecks, placeOf, modelChecks, countsOf, ReadModel, modelAnswer}
+use Rattle.model.specs.Before.{countOf, indexOf}
+use Rattle.model.specs.Reading.{edgeChecks, modelChecks, countsOf, ReadModel, modelAnswer}
 use Rattle.model.specs.Scan.{nothing}
 use Rattle.model.specs.Index.{emptyIndex, scanned, firstMissing, startSquare, countsAt, wholeAnswer, answerOf}
 use Rattle.model.specs.Indexed.{withBounds, edgesFrom, Indexed, IndexedWhere}
@@ -45,18 +46,18 @@ wholeOf r =
 
 -- what 6 is about
 abbrev startCheck : List ℕ → Check
-startCheck words = check 6 (placeOf start words) (HasStart (modelOf words))
+startCheck words = check 6 (indexOf (number start) words) (HasStart (modelOf words))
 
 -- 5 and 6
 abbrev fileChecks : List ℕ → List Check
-fileChecks words = edgeChecks (count location words) 0 words ++ (startCheck words ∷ [])
+fileChecks words = edgeChecks (countOf (number location) words) 0 words ++ (startCheck words ∷ [])
 
 -- the right counts
 abbrev Right : List ℕ → Counts → Type 0
 Right words counts = counts ≡ countsOf words
 
 -- 6: e says whether the table of the start valuations is empty
-start-first : (words : List ℕ) (s : Seen) (e : Bool) → s .place ≡ placeOf start words → countsAt s ≡ countsOf words →
+start-first : (words : List ℕ) (s : Seen) (e : Bool) → s .place ≡ indexOf (number start) words → countsAt s ≡ countsOf words →
     (e ≡ false → HasStart (modelOf words)) → (e ≡ true → HasStart (modelOf words) → ⊥) →
     First (startCheck words ∷ []) (Right words) (modelAnswer (wholeAnswer missing.None e s))
 unfolding wholeAnswer modelAnswer
@@ -65,7 +66,7 @@ start-first words s false place counts present absent = inl (present refl, count
 
 -- 5 and 6: es are the edge words
 whole-first : (words : List ℕ) (s : Seen) (es : List EdgeWord) (e : Bool) →
-    es ≡ edgesFrom 0 words → s .place ≡ placeOf start words → countsAt s ≡ countsOf words →
+    es ≡ edgesFrom 0 words → s .place ≡ indexOf (number start) words → countsAt s ≡ countsOf words →
     (e ≡ false → HasStart (modelOf words)) → (e ≡ true → HasStart (modelOf words) → ⊥) →
     First (fileChecks words) (Right words)
     (modelAnswer (wholeAnswer (firstMissing (s .locations) es) e s))
@@ -73,7 +74,8 @@ whole-first words s es e edges place counts present absent =
     subst (λ (m : Missing). First (fileChecks words) (Right words) (modelAnswer (wholeAnswer m e s)))
     (ap (λ (L : ℕ). firstMissing L (edgesFrom 0 words)) (sym (ap (λ (c : Counts). c .locations) counts))
     ∙ ap (firstMissing (s .locations)) (sym edges))
-    (edges-first (count location words) 0 words (startCheck words ∷ []) (Right words) e s (λ h. start-first words s e place counts present absent))
+    (edges-first (countOf (number location) words) 0 words (startCheck words ∷ []) (Right words) e s
+    (λ h. start-first words s e place counts present absent))
 
 -- what the call returns, from what the pass leaves and the answer
 abbrev pub readOf : Scanned → ModelAnswer → ModelRead
@@ -159,7 +161,7 @@ index-of words = record { accepted = λ counts h. where-run counts h .0; edgeWor
     a = answerOf (scanned words .fault) (scanned words .place) (wholeOf (scanned words))
 
     Says : Scanned → Type 0
-    Says r = Indexed (modelOf words) (readOf r a) × (take (count edge words) (r .index .words) ≡ edgesFrom 0 words)
+    Says r = Indexed (modelOf words) (readOf r a) × (take (countOf (number edge) words) (r .index .words) ≡ edgesFrom 0 words)
 
     where-run : (counts : Counts) → a ≡ answer.Accepted counts → Says (scanned words)
     where-run counts h =

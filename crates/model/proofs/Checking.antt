@@ -16,7 +16,8 @@ use Rattle.zone.proofs.Bools.{true-false, false-true}
 use Rattle.model.specs.Kinds.{Kind, none, head, location, action, edge, bound, start, number, is, kindOf}
 use Rattle.model.specs.Grammar.{follows?}
 use Rattle.model.specs.Fields.{clocksOf, denominatorOf, weightOf, fields?}
-use Rattle.model.specs.Reading.{opener, count, lastEdges, weights, limit?, adds?, wordChecks, wordsChecks, modelAnswer}
+use Rattle.model.specs.Before.{openerFrom, countOf}
+use Rattle.model.specs.Reading.{lastEdges, weights, limit?, adds?, wordChecks, wordsChecks, modelAnswer}
 use Rattle.model.specs.Scan.{nothing, fieldsAt?, limitAt?, addsAt?, faultAt, lastFault, seenWithKind, seenWith}
 use Rattle.model.specs.Index.{unlessFault, scanFrom, scanned, emptyIndex, indexWith, zonesWith, answerOf}
 use Rattle.model.specs.declared.seen.Seen.{Seen}
@@ -34,10 +35,10 @@ use Rattle.model.proofs.Limits.{Passes, passes, firstFault}
 
 -- the numbers of what stands before; `before` lists those words, the last one first
 pub record Tallies (before : List ℕ) (s : Seen) : Type 0 where
-  pub opener : s .opener ≡ opener before
-  pub locations : s .locations ≡ count location before
-  pub actions : s .actions ≡ count action before
-  pub edges : s .edges ≡ count edge before
+  pub opener : s .opener ≡ openerFrom 0 before
+  pub locations : s .locations ≡ countOf (number location) before
+  pub actions : s .actions ≡ countOf (number action) before
+  pub edges : s .edges ≡ countOf (number edge) before
   pub run : s .run ≡ length (lastEdges before)
   pub weights : s .weights ≡ weights (lastEdges before)
 
@@ -53,22 +54,22 @@ pub record Agrees (C D : ℕ) (before : List ℕ) (s : Seen) : Type 0 where
   pub headed : (before ≡ []) ⊎ Headed C D s
 
 pub agrees-nothing : (C D : ℕ) → Agrees C D [] nothing
-unfolding opener count lastEdges weights
+unfolding openerFrom countOf lastEdges weights
 agrees-nothing C D = record { tallies = omega arith; headed = inl refl }
 
 -- ---- a word more
 
 -- what a word of the kind with the number n adds
 record Added (n : ℕ) (before : List ℕ) (w : ℕ) : Type 0 where
-  opener : opener (w ∷ before) ≡ cond (eqb n 5) (opener before) n
-  locations : count location (w ∷ before) ≡ cond (eqb n 2) 1 0 + count location before
-  actions : count action (w ∷ before) ≡ cond (eqb n 3) 1 0 + count action before
-  edges : count edge (w ∷ before) ≡ cond (eqb n 4) 1 0 + count edge before
+  opener : openerFrom 0 (w ∷ before) ≡ cond (eqb n 5) (openerFrom 0 before) n
+  locations : countOf (number location) (w ∷ before) ≡ cond (eqb n 2) 1 0 + countOf (number location) before
+  actions : countOf (number action) (w ∷ before) ≡ cond (eqb n 3) 1 0 + countOf (number action) before
+  edges : countOf (number edge) (w ∷ before) ≡ cond (eqb n 4) 1 0 + countOf (number edge) before
   run : length (lastEdges (w ∷ before)) ≡ cond (eqb n 4) (suc (length (lastEdges before))) 0
   weights : weights (lastEdges (w ∷ before)) ≡ cond (eqb n 4) (weightOf w + weights (lastEdges before)) 0
 
 added : (n : ℕ) (before : List ℕ) (w : ℕ) → kind w ≡ n → Added n before w
-unfolding opener count lastEdges weights
+unfolding openerFrom countOf lastEdges weights
 added n before w e =
     record {
       opener = rw e;
@@ -84,7 +85,7 @@ added n before w e =
     by-bool false f = refl
 
 -- edges of the last action stand only behind an opener that is an edge
-no-edges : (before : List ℕ) → (opener before ≡ 4 → ⊥) → lastEdges before ≡ []
+no-edges : (before : List ℕ) → (openerFrom 0 before ≡ 4 → ⊥) → lastEdges before ≡ []
 unfolding lastEdges
 no-edges [] h = refl
 no-edges (w ∷ before) h = by-bool (is edge w) λ e. h (added 4 before w (eqb-true (kind w) 4 e) .opener)
@@ -93,7 +94,7 @@ no-edges (w ∷ before) h = by-bool (is edge w) λ e. h (added 4 before w (eqb-t
     by-bool true f = absurd (f refl)
     by-bool false f = refl
 
-no-run : (before : List ℕ) → (opener before ≡ 4 → ⊥) → (length (lastEdges before) ≡ 0) × (weights (lastEdges before) ≡ 0)
+no-run : (before : List ℕ) → (openerFrom 0 before ≡ 4 → ⊥) → (length (lastEdges before) ≡ 0) × (weights (lastEdges before) ≡ 0)
 unfolding weights
 no-run before h = (ap length (no-edges before h), ap weights (no-edges before h))
 
@@ -103,7 +104,7 @@ pub data Begins (C D : ℕ) (before : List ℕ) (s : Seen) (n : ℕ) : Type 0 wh
   there : Headed C D s → (n ≡ 1 → ⊥) → Begins C D before s n
 
 pub begins : (C D : ℕ) (before : List ℕ) (s : Seen) (n : ℕ) → Agrees C D before s → follows? (s .opener) n ≡ true → Begins C D before s n
-unfolding opener
+unfolding openerFrom
 begins C D before s n a f = by (a .headed)
   where
     same : eqb (s .opener) 0 ≡ eqb n 1
@@ -111,7 +112,7 @@ begins C D before s n a f = by (a .headed)
 
     by : (before ≡ []) ⊎ Headed C D s → Begins C D before s n
     by (inl e) =
-        let o : s .opener ≡ 0 = a .tallies .opener ∙ ap opener e in here e o (eqb-true n 1 (sym same ∙ eq-eqb (s .opener) 0 o))
+        let o : s .opener ≡ 0 = a .tallies .opener ∙ ap (openerFrom 0) e in here e o (eqb-true n 1 (sym same ∙ eq-eqb (s .opener) 0 o))
     by (inr h) =
         let apart : eqb (s .opener) 0 ≡ false = ne-eqb (s .opener) 0 (λ e. omega arith) in
         there h λ e. true-false (sym (eq-eqb n 1 e) ∙ sym same ∙ apart)
@@ -171,23 +172,23 @@ agrees-with C D before s w p a f first =
 -- the four tests on a word behind the words before
 module _ (C D : ℕ) (before : List ℕ) (w : ℕ) where
   abbrev kind? : Bool
-  kind? = follows? (opener before) (kind w)
+  kind? = follows? (openerFrom 0 before) (kind w)
 
   abbrev field? : Bool
-  field? = fields? (kindOf w) C D (count location before) (opener before) w
+  field? = fields? (kindOf w) C D (countOf (number location) before) (openerFrom 0 before) w
 
   abbrev under? : Bool
-  under? = limit? (kindOf w) (count location before) (count action before) (length (lastEdges before))
+  under? = limit? (kindOf w) (countOf (number location) before) (countOf (number action) before) (length (lastEdges before))
 
   abbrev sum? : Bool
-  sum? = adds? D (opener before) (weights (lastEdges before)) w
+  sum? = adds? D (openerFrom 0 before) (weights (lastEdges before)) w
 
 same-tests :
     (C D : ℕ) (before : List ℕ) (s : Seen) (w : ℕ) → Tallies before s → Begins C D before s (kind w) →
     (fieldsAt? s w ≡ field? C D before w) × (addsAt? s w ≡ sum? C D before w)
 unfolding fieldsAt? addsAt? fields? adds?
 same-tests C D before s w t (here e o n) =
-    let o′ : opener before ≡ 0 = sym (t .opener) ∙ o in (rw (kind-is head w n), rw (o, o′))
+    let o′ : openerFrom 0 before ≡ 0 = sym (t .opener) ∙ o in (rw (kind-is head w n), rw (o, o′))
 same-tests C D before s w t (there h n) = (cc, cc)
 
 same-fault :
@@ -241,7 +242,7 @@ words-from :
     First (wordsChecks C D before words ++ more) P (answered whole (scanFrom s x zs (length before) words))
 unfolding scanFrom wordsChecks wordChecks lastFault
 words-from C D before [] s x zs a first more P whole h =
-    last-first more P whole (eqb (opener before) 6) (lastFault s) (rw (a .tallies .opener)) (length before) h
+    last-first more P whole (eqb (openerFrom 0 before) 6) (lastFault s) (rw (a .tallies .opener)) (length before) h
 words-from C D before (w ∷ ws) s x zs a first more P whole h =
     let p : ℕ = length before in
     let go : Scanned = scanFrom (seenWith s w p) (indexWith s w p x) (zonesWith s w zs) (suc p) ws in

@@ -12,7 +12,8 @@ use Rattle.zone.specs.Words.{bits, kind}
 use Rattle.zone.proofs.Bools.{false-true, right-true}
 use Rattle.model.specs.Kinds.{Kind, none, head, location, action, edge, bound, start, number, is, kindOf}
 use Rattle.model.specs.Fields.{clocksOf, denominatorOf, fields?}
-use Rattle.model.specs.Reading.{opener, count, placeOf, countsOf}
+use Rattle.model.specs.Before.{openerFrom, countOf, indexOf}
+use Rattle.model.specs.Reading.{countsOf}
 use Rattle.model.specs.Scan.{nothing, faultAt, lastFault, seenWithKind, seenWith}
 use Rattle.model.specs.Index.{countsAt}
 use Rattle.model.specs.declared.seen.Seen.{Seen}
@@ -34,10 +35,14 @@ agrees-end C D before (w ∷ ws) s p a first r =
     (λ e. absurd (omega (arith, ap length e))) (r .1)
 
 -- counting goes either way round
-count-reversed : (k : Kind) (words before : List ℕ) → count k (reverseAux words before) ≡ count k before + count k words
-unfolding count
-count-reversed k [] before = omega arith
-count-reversed k (w ∷ ws) before = count-reversed k ws (w ∷ before) ∙ omega arith
+count-onto : (n : ℕ) (words before : List ℕ) → countOf n (reverseAux words before) ≡ countOf n before + countOf n words
+unfolding countOf
+count-onto n [] before = omega arith
+count-onto n (w ∷ ws) before = count-onto n ws (w ∷ before) ∙ omega arith
+
+pub count-reversed : (n : ℕ) (words : List ℕ) → countOf n (reverseAux words []) ≡ countOf n words
+unfolding countOf
+count-reversed n words = count-onto n words [] ∙ omega arith
 
 -- a pass without a fault ends behind the start
 pub ends : (s : Seen) → lastFault s ≡ fault.None → s .opener ≡ 6
@@ -87,13 +92,13 @@ starts start s w p g o =
 
 started-with :
     (w p : ℕ) (ws : List ℕ) (next : Seen) → Starts w p next → Run next (suc p) ws →
-    ((next .opener ≡ 6 → ⊥) → Started (seenEnd next (suc p) ws) (suc p + placeOf start ws)) →
-    Started (seenEnd next (suc p) ws) (p + placeOf start (w ∷ ws))
-unfolding placeOf
+    ((next .opener ≡ 6 → ⊥) → Started (seenEnd next (suc p) ws) (suc p + indexOf (number start) ws)) →
+    Started (seenEnd next (suc p) ws) (p + indexOf (number start) (w ∷ ws))
+unfolding indexOf
 started-with w p ws next (now k o h) r rest = rw (start-stays next (suc p) ws o r, k) (omega arith)
 started-with w p ws next (later n o) r rest = let h = rest o in rw n (omega arith)
 
-started : (s : Seen) (p : ℕ) (words : List ℕ) → (s .opener ≡ 6 → ⊥) → Run s p words → Started (seenEnd s p words) (p + placeOf start words)
+started : (s : Seen) (p : ℕ) (words : List ℕ) → (s .opener ≡ 6 → ⊥) → Run s p words → Started (seenEnd s p words) (p + indexOf (number start) words)
 unfolding seenEnd seenWith
 started s p [] o r = absurd (o (ends s r))
 started s p (w ∷ ws) o r =
@@ -104,25 +109,23 @@ module _ (words : List ℕ) (r : Run nothing 0 words) where
   agrees : Agrees (clocksOf (getD words 0 0)) (denominatorOf (getD words 0 0)) (reverseAux words []) (seenEnd nothing 0 words)
   agrees = agrees-end _ _ [] words nothing 0 (agrees-nothing _ _) (λ e. (refl, refl)) r
 
-  all : (k : Kind) → count k (reverseAux words []) ≡ count k words
-  unfolding count
-  all k = count-reversed k words [] ∙ omega arith
-
   pub counts-end : countsAt (seenEnd nothing 0 words) ≡ countsOf words
-  counts-end = let t = agrees .tallies in rw (t .locations, t .actions, t .edges, all location, all action, all edge)
+  counts-end =
+      let t = agrees .tallies in
+      rw (t .locations, t .actions, t .edges, count-reversed 2 words, count-reversed 3 words, count-reversed 4 words)
 
   pub headed : Headed (clocksOf (getD words 0 0)) (denominatorOf (getD words 0 0)) (seenEnd nothing 0 words)
-  unfolding opener
+  unfolding openerFrom
   headed = by (agrees .headed)
     where
       by : {X : Type 0} → (reverseAux words [] ≡ []) ⊎ X → X
-      by (inl e) = absurd (omega (arith, run-ends nothing 0 words r, agrees .tallies .opener, ap opener e))
+      by (inl e) = absurd (omega (arith, run-ends nothing 0 words r, agrees .tallies .opener, ap (openerFrom 0) e))
       by (inr h) = h
 
-  begun : Started (seenEnd nothing 0 words) (0 + placeOf start words)
+  begun : Started (seenEnd nothing 0 words) (0 + indexOf (number start) words)
   begun = started nothing 0 words (λ e. omega arith) r
 
-  pub place-end : seenEnd nothing 0 words .place ≡ placeOf start words
+  pub place-end : seenEnd nothing 0 words .place ≡ indexOf (number start) words
   place-end = omega (arith, begun .place)
 
   pub start-below : seenEnd nothing 0 words .start < seenEnd nothing 0 words .locations

@@ -12,8 +12,8 @@ use lib.Seq.{getD-set-same}
 use Rattle.zone.specs.Squares.{universe}
 use Rattle.zone.specs.declared.zones.Zone.{Zone as Square}
 use Rattle.zone.proofs.Bools.{false-true}
-use Rattle.model.specs.Kinds.{Kind, head, location, action, edge, bound, start, kindOf}
-use Rattle.model.specs.Grammar.{follows, numbered?, rows?, follows?}
+use Rattle.model.specs.Kinds.{Kind, none, head, location, action, edge, bound, start, kindOf}
+use Rattle.model.specs.Grammar.{follows, numbered?, mayFollow?, follows?}
 use Rattle.model.specs.Fields.{target?}
 use Rattle.model.specs.Model.{Edge, Action, Location, Parts, edgeOf, partsWith, partsOf, modelOf}
 use Rattle.model.specs.Scan.{nothing, WithinLimits, seenWith, seenWithKind}
@@ -32,6 +32,7 @@ use Rattle.model.proofs.Walk.{limits-end, no-edges, Last, last-of}
 use Rattle.model.proofs.Counts.{headed}
 use Rattle.model.proofs.Slots.{zonesWithKind, zones-step, length-with, Opened, opened-with, nowhere}
 use Rattle.model.proofs.Slots.{Ahead, of-location, of-action, of-start, Fresh, fresh-with, own-end}
+use Rattle.model.proofs.ZoneLaws.{same-at, set-at}
 use Rattle.model.proofs.Entries.{Sized, sized-empty, sized-with, Kept, kept-end, numbers-end}
 
 -- what was read describes the parts P that follow the words seen
@@ -43,7 +44,6 @@ record Describes (r : ModelRead) (s : Seen) (P : Parts) : Type 0 where
   actions-limit : getD (r .index .actions) (s .locations) 0 ≤ 32
   edges : Each (EdgeAt r) (s .edges) (P .edges)
   edges-end : getD (r .index .edges) (s .actions) 0 ≡ s .edges + length (P .edges)
-  edges-limit : getD (r .index .edges) (s .actions) 0 ≤ 128
   start : s .opener ≢ 6 → r .index .start ≡ P .start
   startBounds : s .opener ≢ 6 → getD (r .zones) 48 universe ≡ withBounds (P .startBounds) universe
 
@@ -76,7 +76,7 @@ module _ (r : ModelRead) (f s : Seen) (x : Index) (zs : List Square) (w p : ℕ)
   describes-with :
       (k : Kind) → Step s k → Rest r f (seenWithKind k s w p) (indexWithKind k s w p x) (zonesWithKind k s w zs) P →
       Describes r (seenWithKind k s w p) P → Describes r s (partsWith k w P)
-  unfolding seenWithKind indexWithKind zonesWithKind partsWith Each follows? rows? numbered? follows
+  unfolding seenWithKind indexWithKind zonesWithKind partsWith Each follows? mayFollow? numbered? follows
   describes-with head (a-head z) o d = record {
     locations = d .locations;
     each = d .each;
@@ -85,7 +85,6 @@ module _ (r : ModelRead) (f s : Seen) (x : Index) (zs : List Square) (w p : ℕ)
     actions-limit = d .actions-limit;
     edges = d .edges;
     edges-end = d .edges-end;
-    edges-limit = d .edges-limit;
     start = λ n. d .start (omega arith);
     startBounds = λ n. d .startBounds (omega arith);
   }
@@ -109,7 +108,6 @@ module _ (r : ModelRead) (f s : Seen) (x : Index) (zs : List Square) (w p : ℕ)
         actions-limit = omega arith;
         edges = tt;
         edges-end = d .edges-end ∙ ap (λ (es : List Edge). s .edges + length es) free;
-        edges-limit = d .edges-limit;
         start = λ n. d .start (omega arith);
         startBounds = λ n. d .startBounds (omega arith);
       }
@@ -121,7 +119,6 @@ module _ (r : ModelRead) (f s : Seen) (x : Index) (zs : List Square) (w p : ℕ)
         guard = o .own refl ∙ ap (withBounds (P .bounds)) (g .fresh .at (16 + s .actions) (of-action (s .actions) (omega arith) l refl));
         edges = rw first (d .edges);
         ends = rw (first, ← add-one (s .actions)) (d .edges-end);
-        limit = rw (← add-one (s .actions)) (d .edges-limit);
       } in
       record {
         locations = d .locations;
@@ -131,7 +128,6 @@ module _ (r : ModelRead) (f s : Seen) (x : Index) (zs : List Square) (w p : ℕ)
         actions-limit = d .actions-limit;
         edges = tt;
         edges-end = omega arith;
-        edges-limit = omega arith;
         start = λ n. d .start (omega arith);
         startBounds = λ n. d .startBounds (omega arith);
       }
@@ -149,7 +145,6 @@ module _ (r : ModelRead) (f s : Seen) (x : Index) (zs : List Square) (w p : ℕ)
         actions-limit = d .actions-limit;
         edges = (this, rw add-one at (d .edges));
         edges-end = omega (arith, d .edges-end);
-        edges-limit = d .edges-limit;
         start = λ n. d .start (omega arith);
         startBounds = λ n. d .startBounds (omega arith);
       }
@@ -161,7 +156,6 @@ module _ (r : ModelRead) (f s : Seen) (x : Index) (zs : List Square) (w p : ℕ)
     actions-limit = d .actions-limit;
     edges = d .edges;
     edges-end = d .edges-end;
-    edges-limit = d .edges-limit;
     start = d .start;
     startBounds = d .startBounds;
   }
@@ -175,7 +169,6 @@ module _ (r : ModelRead) (f s : Seen) (x : Index) (zs : List Square) (w p : ℕ)
         actions-limit = d .actions-limit;
         edges = tt;
         edges-end = d .edges-end ∙ ap (λ (es : List Edge). s .edges + length es) (e .edges);
-        edges-limit = d .edges-limit;
         start = λ m. o .starts ∙ e .start;
         startBounds = λ m. o .own refl ∙ ap (withBounds (P .bounds)) (g .fresh .at 48 (of-start refl n));
       }
@@ -217,7 +210,6 @@ module _ (r : ModelRead) where
         actions-limit = omega arith;
         edges = tt;
         edges-end = edges ∙ sym (add-zero (s .edges));
-        edges-limit = omega arith;
         start = λ n. absurd (n (t .1));
         startBounds = λ n. absurd (n (t .1));
       }
@@ -229,10 +221,32 @@ module _ (r : ModelRead) where
       (rest-of (seenWith s w p) (indexWith s w p x) (zonesWithKind (kindOf w) s w zs) (suc p) ws (t .3) good ends)
       (describes (seenWith s w p) (indexWith s w p x) (zonesWithKind (kindOf w) s w zs) (suc p) ws (t .3) good ends)
 
+-- ---- the numbers of edges
+
+-- those in the index are numbers of edges read so far
+edges-with :
+    (k : Kind) (s : Seen) (w p : ℕ) (x : Index) → WithinLimits s → ((a : ℕ) → getD (x .edges) a 0 ≤ 128) →
+    (a : ℕ) → getD (indexWithKind k s w p x .edges) a 0 ≤ 128
+unfolding indexWithKind
+edges-with none s w p x h e a = e a
+edges-with head s w p x h e a = e a
+edges-with location s w p x h e a = e a
+edges-with action s w p x h e a = set-at (λ n. n ≤ 128) 0 (s .edges) (x .edges) (s .actions) a e (omega arith)
+edges-with edge s w p x h e a = e a
+edges-with bound s w p x h e a = e a
+edges-with start s w p x h e a = e a
+
+edges-end :
+    (s : Seen) (x : Index) (p : ℕ) (ws : List ℕ) → Walk s p ws → ((a : ℕ) → getD (x .edges) a 0 ≤ 128) →
+    (a : ℕ) → getD (indexEnd s x p ws .edges) a 0 ≤ 128
+unfolding indexEnd indexWith closed
+edges-end s x p [] t e a = let h = t .0 in set-at (λ n. n ≤ 128) 0 (s .edges) (x .edges) (s .actions) a e (omega arith)
+edges-end s x p (w ∷ ws) t e a = edges-end (seenWith s w p) (indexWith s w p x) (suc p) ws (t .3) (edges-with (kindOf w) s w p x (t .0) e) a
+
 -- ---- from the first word
 
 good-nothing : Good nothing emptyIndex (replicate 49 universe)
-unfolding follows? rows? numbered? follows
+unfolding follows? mayFollow? numbered? follows
 good-nothing = record {
   sized = sized-empty;
   size = length-replicate 49 universe;
@@ -269,4 +283,5 @@ indexed words a t =
       startBounds = d .startBounds (omega arith);
       initial = refl;
       limit = rw (n .locations) (limits-end nothing 0 words walk .locations);
+      edgeLimits = edges-end nothing emptyIndex 0 words walk (λ a. rw (same-at {A = ℕ} 33 a 0) (omega arith));
     }

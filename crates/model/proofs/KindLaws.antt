@@ -3,12 +3,14 @@ use Prim.Native.Nat.{ℕ, _≤_}
 use mathlib.Core.Path.{_≡_, refl}
 use mathlib.Core.Bool.{Bool, true, false, not, cond, _&&_, _||_}
 use mathlib.Core.List.{List, [], _∷_}
+use native.Mathlib.Omega.{arith}
 use borrow.Author.Tests.{eqb-true}
 use lib.Dec.{T, eqb, leb, leb→le, eqb→eq}
 use Rattle.zone.specs.Words.{kind}
 use Rattle.zone.proofs.Bools.{false-true, both, is-true, left-true, right-true}
-use Rattle.model.specs.Kinds.{Kind, none, head, location, action, edge, bound, start, number, kinds, is, among, kindOf}
-use Rattle.model.specs.Grammar.{follows, numbered?, rows?, follows?}
+use Rattle.model.specs.Kinds.{Kind, none, head, location, action, edge, bound, start, number, kinds, among, kindOf}
+use Rattle.model.specs.TableKinds.{tableNumber, tableKinds}
+use Rattle.model.specs.Grammar.{follows, tableFollows, numbered?, mayFollow?, follows?, tableFollows?}
 use Rattle.model.proofs.TableRule.{same?, same}
 
 -- a word with the number of a kind is of that kind
@@ -23,20 +25,20 @@ kind-is bound w e = rw e
 kind-is start w e = rw e
 
 -- ---- what holds of none, and of each kind whose number a word has, holds of the word's kind
-module _ (P : Kind → Type 0) where
-  choose : (b : Bool) (k r : Kind) → (b ≡ true → P k) → P r → P (cond b k r)
+module _ {K : Type 0} (numberOf : K → ℕ) (other : K) (P : K → Type 0) where
+  choose : (b : Bool) (k r : K) → (b ≡ true → P k) → P r → P (cond b k r)
   choose true k r f p = f refl
   choose false k r f p = p
 
-  by-among : (w : ℕ) (ks : List Kind) → P none → ((k : Kind) → kind w ≡ number k → P k) → P (among ks w)
+  pub by-among : (w : ℕ) (ks : List K) → P other → ((k : K) → kind w ≡ numberOf k → P k) → P (among numberOf other ks w)
   unfolding among
   by-among w [] n f = n
   by-among w (k ∷ ks) n f =
-      choose (is k w) k (among ks w) (λ e. f k (eqb-true (kind w) (number k) e)) (by-among w ks n f)
+      choose (eqb (kind w) (numberOf k)) k (among numberOf other ks w) (λ e. f k (eqb-true (kind w) (numberOf k) e)) (by-among w ks n f)
 
-  pub by-kind : (w : ℕ) → P none → ((k : Kind) → kind w ≡ number k → P k) → P (kindOf w)
-  unfolding kindOf
-  by-kind w n f = by-among w kinds n f
+pub by-kind : (P : Kind → Type 0) (w : ℕ) → P none → ((k : Kind) → kind w ≡ number k → P k) → P (kindOf w)
+unfolding kindOf
+by-kind P w n f = by-among number none P w kinds n f
 
 -- a word with none of the numbers 1 to 6 is of no kind
 pub no-kind :
@@ -60,36 +62,78 @@ either true b f g h = f refl
 either false b f g h = g h
 
 -- a test of every kind in a list
-abbrev each? : (Kind → Bool) → List Kind → Bool
+abbrev pub each? : {K : Type 0} → (K → Bool) → List K → Bool
 each? P [] = true
 each? P (k ∷ ks) = P k && each? P ks
 
-each-numbered : (P : ℕ → Bool) (ks : List Kind) (n : ℕ) → T (each? (λ k. P (number k)) ks) → numbered? n ks ≡ true → T (P n)
-unfolding numbered?
-each-numbered P [] n t h = false-true h
-each-numbered P (k ∷ ks) n t h =
-    let ts = both (P (number k)) (each? (λ k. P (number k)) ks) t in
-    either (eqb n (number k)) (numbered? n ks) (λ e. rw (eqb-true n (number k) e) (ts .0)) (each-numbered P ks n (ts .1)) h
+module _ {K : Type 0} (numberOf : K → ℕ) (after : K → List K) where
+  each-numbered : (P : ℕ → Bool) (ks : List K) (n : ℕ) → T (each? (λ k. P (numberOf k)) ks) → numbered? numberOf n ks ≡ true → T (P n)
+  unfolding numbered?
+  each-numbered P [] n t h = false-true h
+  each-numbered P (k ∷ ks) n t h =
+      let ts = both (P (numberOf k)) (each? (λ k. P (numberOf k)) ks) t in
+      either (eqb n (numberOf k)) (numbered? numberOf n ks) (λ e. rw (eqb-true n (numberOf k) e) (ts .0)) (each-numbered P ks n (ts .1)) h
 
--- a test of a kind with each that may follow it
-abbrev row? : (ℕ → ℕ → Bool) → Kind → Bool
-row? P k = each? (λ j. P (number k) (number j)) (follows k)
+  -- a test of a kind with each that may follow it
+  abbrev pub row? : (ℕ → ℕ → Bool) → K → Bool
+  row? P k = each? (λ j. P (numberOf k) (numberOf j)) (after k)
 
-each-row : (P : ℕ → ℕ → Bool) (ks : List Kind) (o n : ℕ) → T (each? (row? P) ks) → rows? ks o n ≡ true → T (P o n)
-unfolding rows?
-each-row P [] o n t h = false-true h
-each-row P (k ∷ ks) o n t h =
-    let ts = both (row? P k) (each? (row? P) ks) t in
-    either (eqb o (number k) && numbered? n (follows k)) (rows? ks o n)
-    (λ e.
-    rw (eqb-true o (number k) (left-true _ _ e))
-    (each-numbered (P (number k)) (follows k) n (ts .0) (right-true (eqb o (number k)) _ e)))
-    (each-row P ks o n (ts .1)) h
+  -- what the table says of an opener o and a kind n, by a test that passes for each two kinds of which one may follow the other
+  pub each-row : (P : ℕ → ℕ → Bool) (ks : List K) (o n : ℕ) → T (each? (row? P) ks) → mayFollow? numberOf after ks o n ≡ true → T (P o n)
+  unfolding mayFollow?
+  each-row P [] o n t h = false-true h
+  each-row P (k ∷ ks) o n t h =
+      let ts = both (row? P k) (each? (row? P) ks) t in
+      either (eqb o (numberOf k) && numbered? numberOf n (after k)) (mayFollow? numberOf after ks o n)
+      (λ e.
+      rw (eqb-true o (numberOf k) (left-true _ _ e))
+      (each-numbered (P (numberOf k)) (after k) n (ts .0) (right-true (eqb o (numberOf k)) _ e)))
+      (each-row P ks o n (ts .1)) h
 
--- what the table says of an opener o and a kind n, by a test that passes for each two kinds of which one may follow the other
-table : (P : ℕ → ℕ → Bool) → T (each? (row? P) kinds) → (o n : ℕ) → follows? o n ≡ true → T (P o n)
+table : (P : ℕ → ℕ → Bool) → T (each? (row? number follows P) kinds) → (o n : ℕ) → follows? o n ≡ true → T (P o n)
 unfolding follows?
-table P t o n h = each-row P kinds o n t h
+table P t o n h = each-row number follows P kinds o n t h
+
+-- ---- one table for both files: the openers of a model are numbered up to 6, those of a table from 7 on
+apart : (a b : Bool) → (b ≡ true → ⊥) → (a || b) ≡ a
+apart true b h = refl
+apart false true h = absurd (h refl)
+apart false false h = refl
+
+pub model-follows : (o n : ℕ) → o ≤ 6 → (follows? o n || tableFollows? o n) ≡ follows? o n
+unfolding tableFollows? tableFollows
+model-follows o n h =
+    apart (follows? o n) (tableFollows? o n)
+    (λ t. later (leb→le 7 o (each-row tableNumber tableFollows (λ o n. leb 7 o) tableKinds o n tt t)))
+  where
+    later : 7 ≤ o → ⊥
+    later l = omega arith
+
+pub table-follows : (o n : ℕ) → 7 ≤ o → (follows? o n || tableFollows? o n) ≡ tableFollows? o n
+unfolding follows
+table-follows o n h = by (follows? o n) (λ t. earlier (leb→le o 6 (table (λ o n. leb o 6) tt o n t)))
+  where
+    earlier : o ≤ 6 → ⊥
+    earlier l = omega arith
+
+    by : (a : Bool) → (a ≡ true → ⊥) → (a || tableFollows? o n) ≡ tableFollows? o n
+    by true f = absurd (f refl)
+    by false f = refl
+
+-- openers are numbered up to 16 and kinds up to 15
+pub outside : (o n : ℕ) → (o ≤ 16 → n ≤ 15 → ⊥) → false ≡ (follows? o n || tableFollows? o n)
+unfolding follows tableFollows tableFollows?
+outside o n h =
+    by (follows? o n) (tableFollows? o n) (λ t. within (table (λ o n. leb o 16 && leb n 15) tt o n t))
+    (λ t. within (each-row tableNumber tableFollows (λ o n. leb o 16 && leb n 15) tableKinds o n tt t))
+  where
+    within : T (leb o 16 && leb n 15) → ⊥
+    within t = let ts = both (leb o 16) (leb n 15) t in h (leb→le o 16 (ts .0)) (leb→le n 15 (ts .1))
+
+    by : (a b : Bool) → (a ≡ true → ⊥) → (b ≡ true → ⊥) → false ≡ (a || b)
+    by true b f g = absurd (f refl)
+    by false true f g = absurd (g refl)
+    by false false f g = refl
 
 -- a head stands first, and nothing else does
 pub head-first : (o n : ℕ) → follows? o n ≡ true → eqb o 0 ≡ eqb n 1

@@ -12,7 +12,7 @@ use Rattle.zone.specs.Reading.{withWord}
 use Rattle.zone.specs.declared.zones.Zone.{Zone as Square}
 use Rattle.zone.proofs.Bools.{false-true}
 use Rattle.model.specs.Kinds.{Kind, none, head, location, action, edge, bound, start, number, kindOf}
-use Rattle.model.specs.Grammar.{follows, numbered?, rows?, follows?}
+use Rattle.model.specs.Grammar.{follows, numbered?, mayFollow?, follows?}
 use Rattle.model.specs.Model.{Parts, partsOf, partsWith}
 use Rattle.model.specs.Scan.{WithinLimits, seenWith, seenWithKind}
 use Rattle.model.specs.Index.{zonesWith}
@@ -77,7 +77,7 @@ pub data Opened (s : Seen) : Type 0 where
   nowhere : (Bounded s → ⊥) → Opened s
 
 pub opened-with : (k : Kind) (s : Seen) (w p : ℕ) → Opened s → Opened (seenWithKind k s w p)
-unfolding seenWithKind follows? rows? numbered? follows
+unfolding seenWithKind follows? mayFollow? numbered? follows
 opened-with none s w p o = o
 opened-with head s w p o = nowhere (λ b. false-true b)
 opened-with location s w p o = at-location refl (omega arith)
@@ -163,7 +163,7 @@ behind-with k s w p q (past-action a l e) = let g = grows k s w p in past-action
 apart-with :
     (k : Kind) (s : Seen) (w p q : ℕ) → WithinLimits s → Step s k → (k ≡ bound → Bounded s → q ≢ s .slot) → Behind s q →
     Bounded (seenWithKind k s w p) → q ≢ seenWithKind k s w p .slot
-unfolding seenWithKind follows? rows? numbered? follows
+unfolding seenWithKind follows? mayFollow? numbered? follows
 apart-with head s w p q h (a-head z) n b c = false-true c
 apart-with location s w p q h (a-location m l) n (past-location g) c = omega arith
 apart-with location s w p q h (a-location m l) n (past-action a g e) c = omega arith
@@ -219,7 +219,7 @@ module _ (s : Seen) (w p : ℕ) (zs end : List Square) (P : Parts) (h : WithinLi
       withBounds (P .bounds) (getD (zonesWithKind k s w zs) (seenWithKind k s w p .slot) universe)) →
       (seenWithKind k s w p .opener ≡ 4 → P .bounds ≡ []) →
       getD end (s .slot) universe ≡ withBounds (partsWith k w P .bounds) (getD zs (s .slot) universe)
-  unfolding seenWithKind zonesWithKind partsWith withBounds withWord follows? rows? numbered? follows
+  unfolding seenWithKind zonesWithKind partsWith withBounds withWord follows? mayFollow? numbered? follows
   own-with head (a-head i) f own e = absurd (never (s .opener) 5 0 b refl i)
   own-with location (a-location n l) f own e = f (s .slot) (settles location s w p h o b (a-location n l) n (omega arith))
   own-with action (an-action n l) f own e = f (s .slot) (settles action s w p h o b (an-action n l) n (omega arith))

@@ -7,7 +7,7 @@ use lib.ListN.{getD, length}
 use Rattle.zone.specs.Scale.{Region, within}
 use Rattle.zone.specs.Squares.{universe, met, empty?}
 use Rattle.zone.specs.declared.zones.Zone.{Zone as Square}
-use Rattle.zone.proofs.Regions.{Stands, inBoth, Some, some, stands-met, stands-tightened, empty-yes}
+use Rattle.zone.proofs.Regions.{Stands, inBoth, Some, some, stands-met, empty-yes}
 use Rattle.model.specs.Model.{Model}
 use Rattle.model.specs.States.{locationAt, HasStart}
 use Rattle.model.specs.Index.{startSquare}
@@ -29,10 +29,6 @@ module _
         rw (invariant, startBounds)
         (stands-met (stands-bounds (locationAt M (M .start) .invariant) (good .invariants (M .start)))
         (stands-bounds (M .startBounds) (good .startBounds)))
-
-    pub start-stands : Stands (startRegion M) (startSquare (M .start) zs)
-    unfolding startSquare
-    start-stands = stands-tightened start-met
 
     pub start-yes : M .start < length (M .locations) → empty? (startSquare (M .start) zs) ≡ false → HasStart M
     unfolding startSquare

@@ -9,10 +9,9 @@ use borrow.Author.Tests.{eqb-true}
 use Rattle.zone.specs.Words.{kind}
 use Rattle.zone.proofs.Bools.{false-true}
 use Rattle.model.specs.Kinds.{Kind, none, head, location, action, edge, bound, start, number, kindOf}
-use Rattle.model.specs.Grammar.{follows, numbered?, rows?, follows?}
+use Rattle.model.specs.Grammar.{follows, numbered?, mayFollow?, follows?}
 use Rattle.model.specs.Fields.{fields?}
 use Rattle.model.specs.Model.{Parts, partsOf, partsWith}
-use Rattle.model.specs.Reading.{opener}
 use Rattle.model.specs.Scan.{WithinLimits, faultAt, seenWith, seenWithKind}
 use Rattle.model.specs.declared.seen.Seen.{Seen}
 use Rattle.model.specs.declared.seen.Fault.the-variants as fault
@@ -39,7 +38,7 @@ pub never : (o n m : ℕ) → follows? o n ≡ true → follows? m n ≡ false �
 never o n m h e q = false-true (sym e ∙ ap (λ (o : ℕ). follows? o n) (sym q) ∙ h)
 
 step-of : (k : Kind) (s : Seen) (w : ℕ) → WithinLimits s → faultAt s w ≡ fault.None → Passes k s w → Step s k
-unfolding fields? follows? rows? numbered? follows
+unfolding fields? follows? mayFollow? numbered? follows
 step-of none s w h f g = false-true (g .fields)
 step-of head s w h f g = a-head (eqb-true (s .opener) 0 (head-first (s .opener) 1 (g .follows)))
 step-of location s w h f g = a-location (never (s .opener) 2 6 (g .follows) refl) (room-location s w h f (g .named))
@@ -69,7 +68,7 @@ limits-end s p (w ∷ ws) r = limits-end (seenWith s w p) (suc p) ws (r .3)
 
 module _ (s : Seen) (w p : ℕ) where
   no-bound : (k : Kind) (P : Parts) → s .opener ≡ 4 → Step s k → (seenWithKind k s w p .opener ≡ 4 → P .bounds ≡ []) → partsWith k w P .bounds ≡ []
-  unfolding follows? rows? numbered? follows seenWithKind partsWith
+  unfolding follows? mayFollow? numbered? follows seenWithKind partsWith
   no-bound head P e (a-head z) ih = absurd (omega arith)
   no-bound location P e (a-location n l) ih = refl
   no-bound action P e (an-action n l) ih = refl

@@ -15,11 +15,12 @@ use Rattle.zone.specs.Squares.{universe}
 use Rattle.zone.proofs.Bools.{false-true, is-true, left-true, right-true}
 use Rattle.zone.proofs.CheckLaws.{AllHold, first-accepted}
 use Rattle.model.specs.Kinds.{Kind, none, head, location, action, edge, bound, start, number, is, kindOf}
-use Rattle.model.specs.Grammar.{follows, numbered?, rows?, follows?}
+use Rattle.model.specs.Grammar.{follows, numbered?, mayFollow?, follows?}
 use Rattle.model.specs.Fields.{clocksOf, denominatorOf, maskOf, landsAt, weightOf, headFields?, fields?}
 use Rattle.model.specs.Model.{Edge, Action, Model, Parts, edgeOf, partsWith, partsOf, modelOf}
 use Rattle.model.specs.States.{locationAt}
-use Rattle.model.specs.Reading.{count, adds?, edgeChecks, modelChecks, countsOf, ReadModel, modelAnswer}
+use Rattle.model.specs.Before.{countOf}
+use Rattle.model.specs.Reading.{adds?, edgeChecks, modelChecks, countsOf, ReadModel, modelAnswer}
 use Rattle.model.specs.Scan.{nothing, addsAt?, seenWith, seenWithKind, WithinLimits}
 use Rattle.model.specs.Index.{emptyIndex, scanned}
 use Rattle.model.specs.declared.seen.Seen.{Seen}
@@ -112,7 +113,7 @@ module _ (M : Model) (positive : 1 ≤ M .denominator) where
 
     formed-with :
         (k : Kind) → Passes k s w → (k ≡ edge → landsAt w < length (M .locations)) → Formed M (seenWithKind k s w p) P → Formed M s (partsWith k w P)
-    unfolding fields? seenWithKind partsWith weigh follows? rows? numbered? follows
+    unfolding fields? seenWithKind partsWith weigh follows? mayFollow? numbered? follows
     formed-with none g l f = false-true (g .fields)
     formed-with head g l f =
         let first : s .opener ≡ 0 = eqb-true (s .opener) 0 (head-first (s .opener) 1 (g .follows)) in
@@ -190,7 +191,7 @@ first-head (w ∷ ws) r =
     let named : kind w ≡ 1 = g .named ∙ eqb-true (number (kindOf w)) 1 (sym (head-first 0 (number (kindOf w)) (g .follows))) in
     passes-as head nothing w named (r .0) .fields
 
-pub well-formed : (words : List ℕ) → Run nothing 0 words → AllHold (edgeChecks (count location words) 0 words) → WellFormed (modelOf words)
+pub well-formed : (words : List ℕ) → Run nothing 0 words → AllHold (edgeChecks (countOf (number location) words) 0 words) → WellFormed (modelOf words)
 unfolding modelOf locationAt
 well-formed words r e = record {
   clock = ranges .0;
@@ -204,7 +205,7 @@ well-formed words r e = record {
     ranges : (1 ≤ clocksOf (getD words 0 0)) × (clocksOf (getD words 0 0) ≤ 4) × (1 ≤ denominatorOf (getD words 0 0))
     ranges = head-ranges (getD words 0 0) (first-head words r)
 
-    locations : count location words ≡ length (modelOf words .locations)
+    locations : countOf (number location) words ≡ length (modelOf words .locations)
     locations = sym (ap (λ (c : Counts). c .locations) (counts-end words r))
         ∙ sym (numbers-end nothing emptyIndex 0 words .locations) ∙ indexed words (answer.BadKind 0) r .locations
 
@@ -228,5 +229,5 @@ module _ (words : List ℕ) (counts : Counts) (h : ReadModel words (accepted cou
   unfolding modelChecks
   accepted-formed =
       let behind = first-accepted (checksOf words) _ (λ c. c ≡ countsOf words) counts (h .says) .1 in
-      let edges = first-accepted (edgeChecks (count location words) 0 words) _ (λ c. c ≡ countsOf words) counts behind .0 in
+      let edges = first-accepted (edgeChecks (countOf (number location) words) 0 words) _ (λ c. c ≡ countsOf words) counts behind .0 in
       well-formed words accepted-runs edges

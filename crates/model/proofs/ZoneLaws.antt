@@ -76,12 +76,12 @@ pub small-bounds : (z : Zone) → GoodZone z → Small 4096 (withBounds z univer
 small-bounds z g = small-on z g small-universe-read
 
 -- ---- the tables in the slots
-same-at : {A : Type 0} (n q : ℕ) (a : A) → getD (replicate n a) q a ≡ a
+pub same-at : {A : Type 0} (n q : ℕ) (a : A) → getD (replicate n a) q a ≡ a
 same-at zero q a = refl
 same-at (suc n) zero a = refl
 same-at (suc n) (suc q) a = same-at n q a
 
-set-at : {A : Type 0} (P : A → Type 0) (d x : A) (l : List A) (i q : ℕ) → ((p : ℕ) → P (getD l p d)) → P x → P (getD (set l i x) q d)
+pub set-at : {A : Type 0} (P : A → Type 0) (d x : A) (l : List A) (i q : ℕ) → ((p : ℕ) → P (getD l p d)) → P x → P (getD (set l i x) q d)
 set-at P d x [] i q h g = h q
 set-at P d x (y ∷ l) zero zero h g = g
 set-at P d x (y ∷ l) zero (suc q) h g = h (suc q)

@@ -8,9 +8,9 @@ use Rattle.zone.specs.Scale.{Zone}
 use Rattle.zone.specs.Squares.{universe, withBound}
 use Rattle.zone.specs.Reading.{cellOf}
 use Rattle.zone.specs.declared.zones.Zone.{Zone as Square}
-use Rattle.model.specs.Kinds.{edge, is}
+use Rattle.model.specs.Kinds.{edge, number, is}
+use Rattle.model.specs.Before.{countOf}
 use Rattle.model.specs.Model.{Edge, Action, Location, Model, edgeOf, modelOf}
-use Rattle.model.specs.Reading.{count}
 use Rattle.model.specs.Scan.{guardsAt, startBoundsAt}
 use Rattle.model.specs.Index.{noEdge, startSquare}
 use Rattle.model.specs.declared.index.EdgeWord.{EdgeWord}
@@ -35,8 +35,6 @@ pub record ActionAt (r : ModelRead) (a : ℕ) (A : Action) : Type 0 where
   pub guard : getD (r .zones) (guardsAt + a) universe ≡ withBounds (A .guard) universe
   pub edges : Each (EdgeAt r) (getD (r .index .edges) a 0) (A .edges)
   pub ends : getD (r .index .edges) (suc a) 0 ≡ getD (r .index .edges) a 0 + length (A .edges)
-  -- the numbers of its edges are places in the index's words
-  pub limit : getD (r .index .edges) (suc a) 0 ≤ 128
 
 pub record LocationAt (r : ModelRead) (l : ℕ) (L : Location) : Type 0 where
   pub target : getD (r .index .targets) l false ≡ L .target
@@ -55,6 +53,8 @@ pub record Indexed (M : Model) (r : ModelRead) : Type 0 where
   pub startBounds : getD (r .zones) startBoundsAt universe ≡ withBounds (M .startBounds) universe
   pub initial : r .initial ≡ startSquare (r .index .start) (r .zones)
   pub limit : r .index .locations ≤ 16
+  -- every number in the index's edges is a place in its words or the end of them
+  pub edgeLimits : (a : ℕ) → getD (r .index .edges) a 0 ≤ 128
 
 -- the edge words with their places, the first word having index p
 unfoldable pub edgesFrom : ℕ → List ℕ → List EdgeWord
@@ -63,4 +63,4 @@ edgesFrom p (w ∷ ws) = cond (is edge w) (record { word = w; place = p } ∷ ed
 
 pub record IndexedWhere (words : List ℕ) (r : ModelRead) : Type 0 where
   pub accepted : (counts : Counts) → r .answer ≡ answer.Accepted counts → Indexed (modelOf words) r
-  pub edgeWords : (counts : Counts) → r .answer ≡ answer.Accepted counts → take (count edge words) (r .index .words) ≡ edgesFrom 0 words
+  pub edgeWords : (counts : Counts) → r .answer ≡ answer.Accepted counts → take (countOf (number edge) words) (r .index .words) ≡ edgesFrom 0 words

@@ -26,10 +26,10 @@ kinds = none ∷ head ∷ location ∷ action ∷ edge ∷ bound ∷ start ∷ [
 abbrev pub is : Kind → ℕ → Bool
 is k w = eqb (kind w) (number k)
 
--- the first of these kinds that a word is of
-unfoldable pub among : List Kind → ℕ → Kind
-among [] w = none
-among (k ∷ ks) w = cond (is k w) k (among ks w)
+-- the first of these kinds, numbered so, that a word is of; or else the kind that stands for none of them
+unfoldable pub among : {K : Type 0} → (K → ℕ) → K → List K → ℕ → K
+among numberOf other [] w = other
+among numberOf other (k ∷ ks) w = cond (eqb (kind w) (numberOf k)) k (among numberOf other ks w)
 
 unfoldable pub kindOf : ℕ → Kind
-kindOf w = among kinds w
+kindOf w = among number none kinds w

@@ -1,4 +1,6 @@
 pub mod Kinds
+pub mod TableKinds
+pub mod Before
 pub mod Fields
 pub mod Grammar
 pub mod Model

@@ -8,6 +8,7 @@ use lib.Dec.{eqb, ltb}
 use Rattle.zone.specs.Words.{kind}
 use Rattle.zone.specs.Checks.{Answer, refused, accepted, Check, check, test, First}
 use Rattle.model.specs.Kinds.{Kind, none, head, location, action, edge, bound, start, number, is, kindOf}
+use Rattle.model.specs.Before.{openerFrom, countOf, indexOf}
 use Rattle.model.specs.Grammar.{follows?}
 use Rattle.model.specs.Fields.{clocksOf, denominatorOf, landsAt, weightOf, fields?}
 use Rattle.model.specs.Model.{modelOf}
@@ -17,16 +18,6 @@ use Rattle.model.specs.declared.read.ModelAnswer.{ModelAnswer}
 use Rattle.model.specs.declared.read.ModelAnswer.the-variants as answer
 
 -- ---- what stands before a word; `before` lists those words, the last one first
-
--- the opener, as document 01 calls it: the last word that is no bound; here the number of its kind
-unfoldable pub opener : List ℕ → ℕ
-opener [] = number none
-opener (w ∷ ws) = cond (is bound w) (opener ws) (kind w)
-
--- how many words are of a kind
-unfoldable pub count : Kind → List ℕ → ℕ
-count k [] = 0
-count k (w ∷ ws) = cond (is k w) 1 0 + count k ws
 
 -- the edges of the last action, where the last word is one of them
 unfoldable pub lastEdges : List ℕ → List ℕ
@@ -57,14 +48,14 @@ adds? D opener sum w = not (eqb opener (number edge)) || is edge w || eqb sum D
 -- location exists
 unfoldable pub wordChecks : ℕ → ℕ → List ℕ → ℕ → List Check
 wordChecks C D before w =
-    test 1 (length before) (follows? (opener before) (kind w)) ∷
-    test 2 (length before) (fields? (kindOf w) C D (count location before) (opener before) w) ∷
-    test 3 (length before) (limit? (kindOf w) (count location before) (count action before) (length (lastEdges before))) ∷
-    test 4 (length before) (adds? D (opener before) (weights (lastEdges before)) w) ∷ []
+    test 1 (length before) (follows? (openerFrom (number none) before) (kind w)) ∷
+    test 2 (length before) (fields? (kindOf w) C D (countOf (number location) before) (openerFrom (number none) before) w) ∷
+    test 3 (length before) (limit? (kindOf w) (countOf (number location) before) (countOf (number action) before) (length (lastEdges before))) ∷
+    test 4 (length before) (adds? D (openerFrom (number none) before) (weights (lastEdges before)) w) ∷ []
 
 -- 1: the words end behind the start and its bounds alone; elsewhere a word is missing, at the length
 unfoldable pub wordsChecks : ℕ → ℕ → List ℕ → List ℕ → List Check
-wordsChecks C D before [] = test 1 (length before) (eqb (opener before) (number start)) ∷ []
+wordsChecks C D before [] = test 1 (length before) (eqb (openerFrom (number none) before) (number start)) ∷ []
 wordsChecks C D before (w ∷ ws) = wordChecks C D before w ++ wordsChecks C D (w ∷ before) ws
 
 -- ---- on the whole file
@@ -74,22 +65,17 @@ unfoldable pub edgeChecks : ℕ → ℕ → List ℕ → List Check
 edgeChecks locations p [] = []
 edgeChecks locations p (w ∷ ws) = test 5 p (not (is edge w) || ltb (landsAt w) locations) ∷ edgeChecks locations (suc p) ws
 
--- the index of the first word of a kind: the start word, for 6
-unfoldable pub placeOf : Kind → List ℕ → ℕ
-placeOf k [] = 0
-placeOf k (w ∷ ws) = cond (is k w) 0 (suc (placeOf k ws))
-
--- 1 to 4 word by word, then on the whole file 5 and 6: there is a start state at some scale
+-- 1 to 4 word by word, then on the whole file 5 and, at the start word, 6: there is a start state at some scale
 unfoldable pub modelChecks : List ℕ → List Check
 modelChecks words =
     wordsChecks (clocksOf (getD words 0 0)) (denominatorOf (getD words 0 0)) [] words ++
-    (edgeChecks (count location words) 0 words ++
-    (check 6 (placeOf start words) (HasStart (modelOf words)) ∷ []))
+    (edgeChecks (countOf (number location) words) 0 words ++
+    (check 6 (indexOf (number start) words) (HasStart (modelOf words)) ∷ []))
 
 -- ---- the call
 
 abbrev pub countsOf : List ℕ → Counts
-countsOf words = record { locations = count location words; actions = count action words; edges = count edge words }
+countsOf words = record { locations = countOf (number location) words; actions = countOf (number action) words; edges = countOf (number edge) words }
 
 -- Reading a model accepts with the counts of locations, actions and edges
 pub record ReadModel (words : List ℕ) (answer : Answer Counts) : Type 0 where

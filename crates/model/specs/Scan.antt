@@ -13,7 +13,19 @@ use Rattle.model.specs.declared.seen.Fault.the-variants as fault
 
 abbrev pub nothing : Seen
 nothing =
-    record { opener = 0; clocks = 0; denominator = 0; locations = 0; actions = 0; edges = 0; run = 0; weights = 0; slot = 0; start = 0; place = 0 }
+    record {
+      opener = number none;
+      clocks = 0;
+      denominator = 0;
+      locations = 0;
+      actions = 0;
+      edges = 0;
+      run = 0;
+      weights = 0;
+      slot = 0;
+      start = 0;
+      place = 0;
+    }
 
 unfoldable pub fieldsAt? : Seen → ℕ → Bool
 fieldsAt? s w = fields? (kindOf w) (s .clocks) (s .denominator) (s .locations) (s .opener) w

@@ -52,21 +52,21 @@ pub(crate) fn action_fields(word: u32) -> bool
 }
 
 // The clocks that an edge word resets; the lowest bit is clock 1.
-pub(crate) fn mask_of(word: u32) -> u32
+pub fn mask_of(word: u32) -> u32
     ensures { λ r. ⌜ r ≡ maskOf word ⌝ }
 {
     word / 0x10_0000 % 0x10
 }
 
 // The number of the location that an edge word leads to.
-pub(crate) fn lands_at(word: u32) -> u32
+pub fn lands_at(word: u32) -> u32
     ensures { λ r. ⌜ (r ≡ landsAt word) × (r < 16) ⌝ }
 {
     word / 0x1_0000 % 0x10
 }
 
 // The weight of an edge word.
-pub(crate) fn weight_of(word: u32) -> u32
+pub fn weight_of(word: u32) -> u32
     ensures { λ r. ⌜ (r ≡ weightOf word) × (r < 2 ^ 16) ⌝ }
 {
     word % 0x1_0000

@@ -32,7 +32,7 @@ pub(crate) enum Fault {
 
 impl Seen {
     pub(crate) const NOTHING: Seen = Seen {
-        opener: kinds::NONE,
+        opener: kinds::BEFORE_MODEL,
         clocks: 0,
         denominator: 0,
         locations: 0,

@@ -74,14 +74,10 @@ lands-in mask z k u v p e = record {
     reads : (a : ℕ) → read u (source mask a) ≡ read v a
     reads a = sym (read-reset mask u a) ∙ ap (λ x. read x a) e
 
--- no delay, and one delay after another
+-- no delay
 pub delayed-zero : (v : Valuation) → delayed v 0 ≡ v
 unfolding delayed
 delayed-zero v = fun-ext (λ i. N.add-zero (v i))
-
-pub delayed-delayed : (v : Valuation) (s t : ℕ) → delayed (delayed v s) t ≡ delayed v (s + t)
-unfolding delayed
-delayed-delayed v s t = fun-ext (λ i. N.add-assoc (v i) s t)
 
 -- a zone that holds before and after a delay holds throughout it
 pub between : (z : Zone) (k : ℕ) (v : Valuation) (s t : ℕ) → within z k v → within z k (delayed v (s + t)) → within z k (delayed v s)

@@ -1,7 +1,7 @@
 -- The bounds that a square table keeps meet the laws that the theory of zones rests on (`bounds`), and mean what document 01 says of a
 -- bound (`holds→`, `→holds`). A bound that is not finite says nothing; a finite one says an inequality of naturals, between the parts of
 -- its d. Assumes nothing.
-use mathlib.Core.Path.{_≡_, refl, ap}
+use mathlib.Core.Path.{_≡_, refl, sym, ap, subst, _∙_}
 use mathlib.Core.Logic.{_↔_, _⊎_, inl, inr}
 use mathlib.Core.Bool.{Bool, true, false, not, cond, _&&_, _||_}
 use Prim.Native.Nat.{ℕ, _+_, _*_, _-_, _≤_, _<_}
@@ -14,7 +14,7 @@ use Rattle.zone.specs.declared.bounds.Bound.{Bound as Cell}
 use Rattle.zone.specs.Cells.{unbounded, atMostZero, tighter?, tighterOf, sum, negative?}
 use Rattle.zone.specs.Scale.{Valuation, Bound, read, holds?}
 use Rattle.zone.specs.Reading.{cellOf}
-use Rattle.zone.proofs.Bools.{is-false}
+use Rattle.zone.proofs.Bools.{true-false, is-false}
 use Rattle.zone.proofs.Integers.{up, dn, leZ→, →leZ, ltZ→, →ltZ, nltZ→, parts-add, parts-diff, up-neg, dn-neg, up-mul, dn-mul}
 use Rattle.zone.proofs.Theory.BoundLaws.{BoundLaws}
 
@@ -109,6 +109,30 @@ tighterOf-right a b = by (tighter? a b) (tells a b .yes)
     by : (c : Bool) → (T c → T (a .finite) × (T (b .finite) → side a b < side b a)) → cond c a b ⊑ b
     by true h = let (f, l) = h tt in record { at = λ g. (f, omega (arith, l g)) }
     by false h = ⊑-refl b
+
+tighter-⊑ : (a b : Cell) → tighter? a b ≡ true → a ⊑ b
+unfolding tighterOf
+tighter-⊑ a b e = subst (λ c. c ⊑ b) (ap (λ t. cond t a b) e) (tighterOf-right a b)
+
+pub tighterOf-assoc : (a b c : Cell) → tighterOf (tighterOf a b) c ≡ tighterOf a (tighterOf b c)
+unfolding tighterOf
+tighterOf-assoc a b c = by (tighter? a b) (tighter? b c) (tighter? a c) refl refl refl
+  where
+    -- a is at least as tight as b, and c as a, so c as b
+    first : tighter? a b ≡ true → tighter? b c ≡ true → tighter? a c ≡ false → {X : Type 0} → X
+    first p q r = true-false (sym q ∙ asTight-tighter c b .1 (⊑-trans (asTight-tighter c a .0 r) (tighter-⊑ a b p)))
+
+    last : tighter? a b ≡ false → tighter? b c ≡ false → tighter? a c ≡ true → {X : Type 0} → X
+    last p q r = true-false (sym r ∙ asTight-tighter c a .1 (⊑-trans (asTight-tighter c b .0 q) (asTight-tighter b a .0 p)))
+
+    by : (p q r : Bool) → tighter? a b ≡ p → tighter? b c ≡ q → tighter? a c ≡ r →
+        cond (tighter? (cond p a b) c) (cond p a b) c ≡ cond (tighter? a (cond q b c)) a (cond q b c)
+    by true true true p q r = rw (p, r) refl
+    by true true false p q r = first p q r
+    by true false r p q e = refl
+    by false true r p q e = rw (p, q) refl
+    by false false true p q r = last p q r
+    by false false false p q r = rw (q, r) refl
 
 -- ---- the sum
 -- r is s or t

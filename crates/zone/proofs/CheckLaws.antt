@@ -37,6 +37,18 @@ abbrev pub AllHold : List Check → Type 0
 AllHold [] = Unit {0}
 AllHold (c ∷ cs) = c .holds × AllHold cs
 
+pub all-left : (cs ds : List Check) → AllHold (cs ++ ds) → AllHold cs
+all-left [] ds h = tt
+all-left (c ∷ cs) ds h = (h .0, all-left cs ds (h .1))
+
+pub all-right : (cs ds : List Check) → AllHold (cs ++ ds) → AllHold ds
+all-right [] ds h = h
+all-right (c ∷ cs) ds h = all-right cs ds (h .1)
+
+pub all-join : (cs ds : List Check) → AllHold cs → AllHold ds → AllHold (cs ++ ds)
+all-join [] ds g h = h
+all-join (c ∷ cs) ds g h = (g .0, all-join cs ds (g .1) h)
+
 -- checks that hold leave the answer to those behind them
 pub first-join : {A : Type 0} (cs ds : List Check) (P : A → Type 0) (a : Answer A) → AllHold cs → First ds P a → First (cs ++ ds) P a
 first-join [] ds P a h x = x
@@ -47,11 +59,24 @@ pub first-all : {A : Type 0} (cs : List Check) (P : A → Type 0) (x : A) → Al
 first-all [] P x h p = p
 first-all (c ∷ cs) P x h p = inl (h .0, first-all cs P x (h .1) p)
 
--- an answer that the first checks give does not look at those behind them
-pub first-before : {A : Type 0} (cs ds : List Check) (P Q : A → Type 0) (n p : ℕ) → First cs P (refused n p) → First (cs ++ ds) Q (refused n p)
+pub first-holds : {A : Type 0} (cs : List Check) (P : A → Type 0) (x : A) → First cs P (accepted x) → AllHold cs × P x
+first-holds [] P x f = (tt, f)
+first-holds (c ∷ cs) P x (inl f) = let r = first-holds cs P x (f .1) in ((f .0, r .0), r .1)
+first-holds {A} (c ∷ cs) P x (inr f) = let z : _≡_ {A = ℕ} 0 1 = cc (f .1) in absurd (omega arith)
+
+-- a refusal is the same whatever an acceptance would have carried
+pub same-refusal : {A B : Type 0} (n p m q : ℕ) → _≡_ {A = Answer A} (refused n p) (refused m q) → _≡_ {A = Answer B} (refused n p) (refused m q)
+same-refusal n p m q e =
+    let number : n ≡ m = cc in
+    let place : p ≡ q = cc in
+    rw (number, place)
+
+-- a refusal that the first checks give does not look at those behind them
+pub first-before : {A B : Type 0} (cs ds : List Check) (P : A → Type 0) (Q : B → Type 0) (n p : ℕ) → First cs P (refused n p) →
+    First (cs ++ ds) Q (refused n p)
 first-before [] ds P Q n p x = absurd x
 first-before (c ∷ cs) ds P Q n p (inl x) = inl (x .0, first-before cs ds P Q n p (x .1))
-first-before {A} (c ∷ cs) ds P Q n p (inr x) = inr x
+first-before {A} {B} (c ∷ cs) ds P Q n p (inr x) = inr (x .0, same-refusal n p (c .number) (c .place) (x .1))
 
 -- where the answer accepts, the first checks hold, and it is that of those behind them
 pub first-accepted : {A : Type 0} (cs ds : List Check) (P : A → Type 0) (x : A) → First (cs ++ ds) P (accepted x) →

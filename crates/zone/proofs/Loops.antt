@@ -1,8 +1,8 @@
--- Loops over tables: one that fills a table from the front, and one that looks for a number that fails a test. Assumes nothing.
+-- Loops over arrays: one that fills an array from the front, and one that looks for a number that fails a test. Assumes nothing.
 use Prim.Native.Nat.{ℕ, zero, suc, _+_, _*_, _/_, _%_, _≤_, _<_}
-use mathlib.Core.Path.{_≡_, refl, sym, ap, _∙_}
+use mathlib.Core.Path.{_≡_, refl, sym, ap, ap₂, _∙_}
 use mathlib.Core.Bool.{Bool, true, false, _&&_, and-false}
-use mathlib.Core.List.{List}
+use mathlib.Core.List.{List, _∷_}
 use mathlib.Core.Logic.{_⊎_, inl, inr}
 use native.Mathlib.Nat.{
   add-zero,
@@ -33,64 +33,71 @@ pub on-diagonal : (z : Square) (i : ℕ) → cell z i i ≡ getD (z .cells) (i *
 on-diagonal z i = ap (λ (k : ℕ). getD (z .cells) k unbounded) (let e : i * 5 + i ≡ i * 6 = omega arith in e)
 
 -- ---- the list of a function's values
-pub listOf-length : (f : ℕ → Cell) (n p : ℕ) → length (listOf f n p) ≡ n
+pub listOf-length : {A : Type 0} (f : ℕ → A) (n p : ℕ) → length (listOf f n p) ≡ n
 unfolding listOf
 listOf-length f zero p = refl
 listOf-length f (suc n) p = ap suc (listOf-length f n (suc p))
 
-from : (f : ℕ → Cell) (n p k : ℕ) → k < n → getD (listOf f n p) k unbounded ≡ f (p + k)
+from : {A : Type 0} (d : A) (f : ℕ → A) (n p k : ℕ) → k < n → getD (listOf f n p) k d ≡ f (p + k)
 unfolding listOf
-from f zero p k h = absurd (not-suc-le-zero h)
-from f (suc n) p zero h = ap f (sym (add-zero p))
-from f (suc n) p (suc k) h = from f n (suc p) k (le-of-suc-le-suc h) ∙ ap f (suc-add p k ∙ sym (add-suc p k))
+from d f zero p k h = absurd (not-suc-le-zero h)
+from d f (suc n) p zero h = ap f (sym (add-zero p))
+from d f (suc n) p (suc k) h = from d f n (suc p) k (le-of-suc-le-suc h) ∙ ap f (suc-add p k ∙ sym (add-suc p k))
 
-pub listOf-at : (f : ℕ → Cell) (n k : ℕ) → k < n → getD (listOf f n 0) k unbounded ≡ f k
-listOf-at f n k h = from f n 0 k h ∙ ap f (zero-add k)
+pub listOf-at : {A : Type 0} (d : A) (f : ℕ → A) (n k : ℕ) → k < n → getD (listOf f n 0) k d ≡ f k
+listOf-at d f n k h = from d f n 0 k h ∙ ap f (zero-add k)
 
--- ---- a table that has the goal's cells below p, and from p on those that it had
-pub record Filled (goal old : List Cell) (p : ℕ) (xs : List Cell) : Type 0 where
-  pub size : length xs ≡ 25
-  pub done : (k : ℕ) → k < p → getD xs k unbounded ≡ getD goal k unbounded
-  pub rest : (k : ℕ) → p ≤ k → getD xs k unbounded ≡ getD old k unbounded
+-- two functions with the same values have the same list
+pub listOf-same : {A : Type 0} (f g : ℕ → A) (n p : ℕ) → ((k : ℕ) → k < p + n → f k ≡ g k) → listOf f n p ≡ listOf g n p
+unfolding listOf
+listOf-same f g zero p h = refl
+listOf-same f g (suc n) p h = ap₂ _∷_ (h p (omega arith)) (listOf-same f g n (suc p) (λ k l. h k (omega arith)))
 
-module _ {goal old : List Cell} where
-  pub unfilled : length old ≡ 25 → Filled goal old 0 old
+-- ---- an array of n values that has the goal's below p, and from p on those that it had; d is what it reads past its end
+pub record Filled {A : Type 0} (d : A) (n : ℕ) (goal old : List A) (p : ℕ) (xs : List A) : Type 0 where
+  pub size : length xs ≡ n
+  pub done : (k : ℕ) → k < p → getD xs k d ≡ getD goal k d
+  pub rest : (k : ℕ) → p ≤ k → getD xs k d ≡ getD old k d
+
+module _ {A : Type 0} {d : A} {n : ℕ} {goal old : List A} where
+  pub unfilled : length old ≡ n → Filled d n goal old 0 old
   unfilled e = record { size = e; done = λ k h. absurd (not-suc-le-zero h); rest = λ k h. refl }
 
-  module _ {p : ℕ} {xs : List Cell} (t : Filled goal old p xs) where
-    -- one cell more is stored
-    pub stored : (v : Cell) → p < 25 → v ≡ getD goal p unbounded → Filled goal old (p + 1) (set xs p v)
+  module _ {p : ℕ} {xs : List A} (t : Filled d n goal old p xs) where
+    -- one value more is stored
+    pub stored : (v : A) → p < n → v ≡ getD goal p d → Filled d n goal old (p + 1) (set xs p v)
     stored v h e = record {
       size = length-set xs p v ∙ t .size;
       done = λ k l. at k (lt-or-ge k p) l;
-      rest = λ k l. getD-set-other xs p k v unbounded (λ q. omega arith) ∙ t .rest k (omega arith);
+      rest = λ k l. getD-set-other xs p k v d (λ q. omega arith) ∙ t .rest k (omega arith);
     }
       where
-        at : (k : ℕ) → (k < p) ⊎ (p ≤ k) → k < p + 1 → getD (set xs p v) k unbounded ≡ getD goal k unbounded
-        at k (inl l) g = getD-set-other xs p k v unbounded (λ q. omega arith) ∙ t .done k l
+        at : (k : ℕ) → (k < p) ⊎ (p ≤ k) → k < p + 1 → getD (set xs p v) k d ≡ getD goal k d
+        at k (inl l) g = getD-set-other xs p k v d (λ q. omega arith) ∙ t .done k l
         at k (inr l) g =
             let q : k ≡ p = omega arith in
             let s = t .size in
-            rw q (getD-set-same xs p v unbounded (omega arith) ∙ e)
+            rw q (getD-set-same xs p v d (omega arith) ∙ e)
 
-    -- the cells up to q are there already
-    pub kept :
-        (q : ℕ) → p ≤ q → ((k : ℕ) → p ≤ k → k < q → getD old k unbounded ≡ getD goal k unbounded) → Filled goal old q xs
+    -- the values up to q are there already
+    pub kept : (q : ℕ) → p ≤ q → ((k : ℕ) → p ≤ k → k < q → getD old k d ≡ getD goal k d) → Filled d n goal old q xs
     kept q h e = record {
       size = t .size;
       done = λ k l. at k (lt-or-ge k p) l;
       rest = λ k l. t .rest k (omega arith);
     }
       where
-        at : (k : ℕ) → (k < p) ⊎ (p ≤ k) → k < q → getD xs k unbounded ≡ getD goal k unbounded
+        at : (k : ℕ) → (k < p) ⊎ (p ≤ k) → k < q → getD xs k d ≡ getD goal k d
         at k (inl l) g = t .done k l
         at k (inr l) g = t .rest k l ∙ e k l g
 
-    pub filled : length goal ≡ 25 → 25 ≤ p → _≡_ {A = Square} (record { cells = xs }) (record { cells = goal })
-    filled e h =
-        let s = t .size in
-        ap (λ (cs : List Cell). record { cells = cs })
-        (ext-getD unbounded xs goal (t .size ∙ sym e) (λ k l. t .done k (omega arith)))
+    pub all-filled : length goal ≡ n → n ≤ p → xs ≡ goal
+    all-filled e h = let s = t .size in ext-getD d xs goal (t .size ∙ sym e) (λ k l. t .done k (omega arith))
+
+-- a square table that is filled
+pub filled : {goal old : List Cell} {p : ℕ} {xs : List Cell} → Filled unbounded 25 goal old p xs → length goal ≡ 25 → 25 ≤ p →
+    _≡_ {A = Square} (record { cells = xs }) (record { cells = goal })
+filled t e h = ap (λ (cs : List Cell). record { cells = cs }) (all-filled t e h)
 
 -- ---- a test at every number below n
 pub all-pass : (n : ℕ) (f : ℕ → Bool) → ((k : ℕ) → k < n → f k ≡ true) → all? n f ≡ true

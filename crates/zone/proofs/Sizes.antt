@@ -12,7 +12,7 @@ use lib.Seq.{getD-set-same, getD-set-other, set-out}
 use lib.Signed.{mag}
 use Rattle.zone.specs.Cells.{unbounded, atMostZero, tighterOf, sum}
 use Rattle.zone.specs.Squares.{Small, cell, listOf, universe, withBound, met, passed, passedBelow, tightened}
-use Rattle.zone.specs.Squares.{delayedSquare, source, resetSquare, beforeBelow, beforeReset}
+use Rattle.zone.specs.Squares.{delayedSquare, source, beforeBelow, beforeReset}
 use Rattle.zone.specs.Words.{boundOf, goodBound?}
 use Rattle.zone.specs.Reading.{cellOf, withWord, readFrom, readZone}
 use Rattle.zone.specs.declared.bounds.Bound.{Bound as Cell}
@@ -31,7 +31,7 @@ small-cells : (f : ℕ → Cell) {n : ℕ} → ((p : ℕ) → mag (f p .d) < n) 
 small-cells f {n} h = record { at = λ p. by p (lt-or-ge p 25) }
   where
     by : (p : ℕ) → (p < 25) ⊎ (25 ≤ p) → mag (getD (listOf f 25 0) p unbounded .d) < n
-    by p (inl l) = rw (listOf-at f 25 p l) (h p)
+    by p (inl l) = rw (listOf-at unbounded f 25 p l) (h p)
     by p (inr l) =
         let g = listOf-length f 25 0 in
         let o = h 0 in
@@ -80,9 +80,6 @@ module _ {n : ℕ} (z : Square) (s : Small n z) where
       let g = s .at 0 in
       small-cells _
       (λ p. size-cond (not (eqb (p / 5) 0) && eqb (p % 5) 0) unbounded (cell z (p / 5) (p % 5)) (omega arith) (s .at _))
-
-  pub small-reset : (mask : ℕ) → Small n (resetSquare mask z)
-  small-reset mask = small-cells _ (λ p. s .at (source mask (p / 5) * 5 + source mask (p % 5)))
 
 -- a bound that is moved to other clocks keeps its number
 module _ {n : ℕ} (z : Square) (s : Small n z) (mask : ℕ) where

@@ -2,6 +2,7 @@
 use Prim.Native.Nat.{ℕ, zero, suc, _+_, _*_, _/_, _%_, _<_, _≤_}
 use mathlib.Core.Path.{_≡_, refl, sym, ap, ap₂, _∙_, fun-ext, subst, subst₂}
 use mathlib.Core.Bool.{Bool, true, false, not, cond, _&&_, _||_}
+use mathlib.Core.List.{List}
 use native.Mathlib.Omega.{arith}
 use lib.Dec.{T, eqb, eqb→eq, eqb·suc-zero, ltb, ltb→lt}
 use borrow.Author.Tests.{lt-ltb, eqb-false, not-true, not-false}
@@ -27,8 +28,8 @@ use Rattle.zone.specs.Squares.{
 use Rattle.zone.specs.declared.bounds.Bound.{Bound as Cell}
 use Rattle.zone.specs.declared.zones.Zone.{Zone as Square}
 use Rattle.zone.proofs.Bools.{false-true}
-use Rattle.zone.proofs.CellLaws.{bounds, asTight-tighter, asTight-negative}
-use Rattle.zone.proofs.Loops.{at-clocks, listOf-length, listOf-at, all-pass, all-at}
+use Rattle.zone.proofs.CellLaws.{bounds, tighterOf-assoc, asTight-tighter, asTight-negative}
+use Rattle.zone.proofs.Loops.{at-clocks, listOf-length, listOf-at, listOf-same, all-pass, all-at}
 use Rattle.zone.proofs.Theory.Tables.{Table, Ok, pass, close, meet}
 use Rattle.zone.proofs.Theory.Delay.{delay}
 use Rattle.zone.proofs.Theory.Reset.{renamed, renamed-lt}
@@ -57,7 +58,17 @@ pub column : (i j : ℕ) → j < 5 → (i * 5 + j) % 5 ≡ j
 column i j h = omega arith
 
 pub square-at : (f : ℕ → ℕ → Cell) (i j : ℕ) → i < 5 → j < 5 → cell (squareOf f) i j ≡ f i j
-square-at f i j hi hj = listOf-at (λ p. f (p / 5) (p % 5)) 25 (i * 5 + j) (omega arith) ∙ ap₂ f (row i j hj) (column i j hj)
+square-at f i j hi hj = listOf-at unbounded (λ p. f (p / 5) (p % 5)) 25 (i * 5 + j) (omega arith) ∙ ap₂ f (row i j hj) (column i j hj)
+
+-- meeting two tables and then a third is meeting the first with what the others meet in
+pub met-assoc : (x y z : Square) → met (met x y) z ≡ met x (met y z)
+met-assoc x y z = ap (λ (cs : List Cell). record { cells = cs }) (listOf-same _ _ 25 0 (λ p h. at (p / 5) (p % 5) (omega arith) (omega arith)))
+  where
+    at : (i j : ℕ) → i < 5 → j < 5 → tighterOf (cell (met x y) i j) (cell z i j) ≡ tighterOf (cell x i j) (cell (met y z) i j)
+    at i j hi hj =
+        ap (λ c. tighterOf c (cell z i j)) (square-at (λ a b. tighterOf (cell x a b) (cell y a b)) i j hi hj)
+        ∙ tighterOf-assoc (cell x i j) (cell y i j) (cell z i j)
+        ∙ sym (ap (tighterOf (cell x i j)) (square-at (λ a b. tighterOf (cell y a b) (cell z a b)) i j hi hj))
 
 -- two clipped tables that agree within five clocks are one
 clip-same : (f g : ℕ → ℕ → Cell) → ((i j : ℕ) → i < 5 → j < 5 → f i j ≡ g i j) → clipped f ≡ clipped g

@@ -1,6 +1,6 @@
 -- Algorithm: the bounds that a square table keeps, and what is worked out from them. Assumes nothing.
 use mathlib.Core.Bool.{Bool, true, false, not, cond, _&&_, _||_}
-use lib.IntN.{ℤ, pos, _+ℤ_}
+use lib.IntN.{pos, _+ℤ_}
 use lib.Signed.{ltZ}
 use Rattle.zone.specs.declared.bounds.Bound.{Bound as Cell}
 

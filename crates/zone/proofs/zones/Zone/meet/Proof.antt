@@ -4,13 +4,14 @@ use native.Mathlib.Nat.{div-add-mod'}
 use native.Mathlib.Omega.{arith}
 use borrow.Author.Needs.{needs}
 use lib.ListN.{length-map}
+use Rattle.zone.specs.Cells.{unbounded}
 use Rattle.zone.specs.Squares.{met}
 use Rattle.zone.proofs.Loops.{listOf-length, listOf-at, Filled, unfilled, stored, filled}
 use Rattle.zone.proofs.zones.Zone.meet.Statement.{statement}
 use Rattle.zone.proofs.zones.Zone.meet.Tie as tie
 
 abbrev Inv-loop : tie.InvT-loop
-Inv-loop self other out₀ p₀ out p = (p ≤ 25) × Filled (met self other .cells) (out₀ .cells) p (out .cells)
+Inv-loop self other out₀ p₀ out p = (p ≤ 25) × Filled unbounded 25 (met self other .cells) (out₀ .cells) p (out .cells)
 
 abbrev μ-loop : tie.MeasureT-loop
 μ-loop self other out₀ p₀ out p = 25 - p
@@ -50,7 +51,7 @@ loop-again c =
     let turn = c .before .before .before .before .loop in (
       omega arith,
       stored (turn .inv .1) (c .tighter-of .result) (omega arith)
-          (c .tighter-of .ensures ∙ rw (listOf-at _ 25 (turn .p) (omega arith), div-add-mod' (turn .p) 5)),
+          (c .tighter-of .ensures ∙ rw (listOf-at unbounded _ 25 (turn .p) (omega arith), div-add-mod' (turn .p) 5)),
     )
 
 returns : tie.Need-returns Inv-loop μ-loop

@@ -4,13 +4,14 @@ use native.Mathlib.Nat.{div-add-mod'}
 use native.Mathlib.Omega.{arith}
 use borrow.Author.Needs.{needs}
 use lib.ListN.{length-map}
+use Rattle.zone.specs.Cells.{unbounded}
 use Rattle.zone.specs.Squares.{passed}
 use Rattle.zone.proofs.Loops.{listOf-length, listOf-at, Filled, unfilled, stored, filled}
 use Rattle.zone.proofs.zones.Zone.pass.Statement.{statement}
 use Rattle.zone.proofs.zones.Zone.pass.Tie as tie
 
 abbrev Inv-loop : tie.InvT-loop
-Inv-loop m self out₀ p₀ out p = (p ≤ 25) × Filled (passed m self .cells) (out₀ .cells) p (out .cells)
+Inv-loop m self out₀ p₀ out p = (p ≤ 25) × Filled unbounded 25 (passed m self .cells) (out₀ .cells) p (out .cells)
 
 abbrev μ-loop : tie.MeasureT-loop
 μ-loop m self out₀ p₀ out p = 25 - p
@@ -71,7 +72,7 @@ loop-again c =
     let turn = c .before .before .before .before .before .before .loop in (
       omega arith,
       stored (turn .inv .1) (c .tighter-of .result) (omega arith)
-          (c .tighter-of .ensures ∙ rw (c .before .sum .ensures, listOf-at _ 25 (turn .p) (omega arith), div-add-mod' (turn .p) 5)),
+          (c .tighter-of .ensures ∙ rw (c .before .sum .ensures, listOf-at unbounded _ 25 (turn .p) (omega arith), div-add-mod' (turn .p) 5)),
     )
 
 returns : tie.Need-returns Inv-loop μ-loop

@@ -2,13 +2,14 @@ use Prim.Native.Nat.{_≤_, _-_}
 use native.Mathlib.Omega.{arith}
 use borrow.Author.Needs.{needs}
 use lib.ListN.{length-map}
+use Rattle.zone.specs.Cells.{unbounded}
 use Rattle.zone.specs.Squares.{resetSquare}
 use Rattle.zone.proofs.Loops.{listOf-length, listOf-at, Filled, unfilled, stored, filled}
 use Rattle.zone.proofs.zones.Zone.reset.Statement.{statement}
 use Rattle.zone.proofs.zones.Zone.reset.Tie as tie
 
 abbrev Inv-loop : tie.InvT-loop
-Inv-loop mask self out₀ p₀ out p = (p ≤ 25) × Filled (resetSquare mask self .cells) (out₀ .cells) p (out .cells)
+Inv-loop mask self out₀ p₀ out p = (p ≤ 25) × Filled unbounded 25 (resetSquare mask self .cells) (out₀ .cells) p (out .cells)
 
 abbrev μ-loop : tie.MeasureT-loop
 μ-loop mask self out₀ p₀ out p = 25 - p
@@ -52,7 +53,7 @@ loop-again c =
     let turn = read .before .before .before .loop in (
       omega arith,
       stored (turn .inv .1) _ (omega arith)
-          (rw (read .before .source-of .ensures .0, read .source-of2 .ensures .0, listOf-at _ 25 (turn .p) (omega arith))),
+          (rw (read .before .source-of .ensures .0, read .source-of2 .ensures .0, listOf-at unbounded _ 25 (turn .p) (omega arith))),
     )
 
 returns : tie.Need-returns Inv-loop μ-loop

@@ -13,20 +13,20 @@ use Rattle.zone.proofs.zones.Zone.universe.Statement.{statement}
 use Rattle.zone.proofs.zones.Zone.universe.Tie as tie
 
 abbrev Inv-loop : tie.InvT-loop
-Inv-loop cells₀ p₀ cells p = (p ≤ 25) × Filled (universe .cells) cells₀ p cells
+Inv-loop cells₀ p₀ cells p = (p ≤ 25) × Filled unbounded 25 (universe .cells) cells₀ p cells
 
 abbrev μ-loop : tie.MeasureT-loop
 μ-loop cells₀ p₀ cells p = 25 - p
 
 -- the cells that have a bound, and those that do not
 bound : (p : ℕ) → p < 25 → (eqb (p / 5) 0 || eqb (p / 5) (p % 5)) ≡ true → atMostZero ≡ getD (universe .cells) p unbounded
-bound p h e = rw (listOf-at _ 25 p h, e)
+bound p h e = rw (listOf-at unbounded _ 25 p h, e)
 
 blank :
     (p : ℕ) → p < 25 → (eqb (p / 5) 0 || eqb (p / 5) (p % 5)) ≡ false → (k : ℕ) → p ≤ k → k < p + 1 →
     getD (replicate 25 unbounded) k unbounded ≡ getD (universe .cells) k unbounded
 blank p h e k l m =
-    let q : k ≡ p = omega arith in rw q (getD-replicate 25 p unbounded unbounded h ∙ rw (listOf-at _ 25 p h, e))
+    let q : k ≡ p = omega arith in rw q (getD-replicate 25 p unbounded unbounded h ∙ rw (listOf-at unbounded _ 25 p h, e))
 
 loop-holds : tie.Need-loop-holds Inv-loop μ-loop
 loop-holds c = (omega arith, unfilled refl)

@@ -1,0 +1,117 @@
+-- The cases of document 01 marked *, as one statement about the definitions: computed by the algorithms, whose answers are proved. Assumes nothing.
+use Prim.Native.Nat.{ℕ}
+use mathlib.Core.Path.{_≡_, refl, subst}
+use mathlib.Core.Bool.{true, false}
+use mathlib.Core.List.{List, [], _∷_, _++_}
+use lib.ListN.{set, take, drop}
+use Rattle.zone.specs.Moves.{masked?}
+use Rattle.zone.specs.Words.{boundOf, boundFields?}
+use Rattle.zone.specs.Checks.{Answer, refused, accepted}
+use Rattle.zone.specs.Questions.{AskedEmpty, AskedInside}
+use Rattle.zone.specs.Cells.{tighter?, tighterOf, sum, negative?}
+use Rattle.zone.specs.Squares.{listOf, withBound, passedBelow, source, beforeBelow, all?, empty?, inside?}
+use Rattle.zone.specs.Reading.{withWord}
+use Rattle.zone.proofs.Cases.{zone-cases}
+use Rattle.model.specs.Kinds.{among, kindOf}
+use Rattle.model.specs.TableKinds.{tableKindOf}
+use Rattle.model.specs.Grammar.{follows, tableFollows, numbered?, mayFollow?, follows?, tableFollows?}
+use Rattle.model.specs.Fields.{fields?}
+use Rattle.model.specs.Reading.{limit?, adds?}
+use Rattle.model.specs.Scan.{fieldsAt?, limitAt?, addsAt?, faultAt, lastFault, seenWithKind, seenWith}
+use Rattle.model.specs.Index.{
+  indexWithKind,
+  indexWith,
+  closed,
+  zonesWith,
+  unlessFault,
+  scanFrom,
+  scanned,
+  firstMissing,
+  startSquare,
+  wholeAnswer,
+  answerOf,
+}
+use Rattle.table.specs.Fields as fields
+use Rattle.table.specs.Reading as reading
+use Rattle.table.specs.Scan as scan
+use Rattle.table.specs.Index as index
+use Rattle.judge.specs.Judging.{Judged, verdictAnswer}
+use Rattle.judge.specs.Reaching.{withLanding, withLandings, enabledSquare, enabledSquares, waitedSquare, reachSquare}
+use Rattle.judge.specs.Walk.{successorFinding, orElse, successorsFrom, rowsFrom, nodesFrom, walked}
+use Rattle.judge.specs.Deciding.{startVerdict}
+use Rattle.judge.specs.declared.verdict.Certificate.{Certificate}
+use Rattle.judge.proofs.CountLaws.{timeline}
+use Rattle.judge.proofs.Computing.{behindModel, behindWords, behindNodes, modelRead, tableRead, judged, computed, computes}
+
+-- T; M is `timeline`
+abbrev table : List ℕ
+table =
+    0x7000000A ∷ 0x80000000 ∷ 0x51001000 ∷ 0x90000001 ∷ 0xB0000001 ∷ 0xB0000002 ∷ 0x81000000 ∷ 0x90000000 ∷ 0x82000000 ∷ 0x9000000A ∷ 0xC0000000 ∷
+    []
+
+-- T's two B words replaced by one A word
+abbrev blockedTable : List ℕ
+blockedTable = take 4 table ++ (0xA0000000 ∷ drop 6 table)
+
+-- M with the clock above 3 for its guard
+abbrev above : List ℕ
+above = set timeline 4 0x50180FFD
+
+-- a bound put after T's word 6
+abbrev boundedTable : ℕ → List ℕ
+boundedTable w = take 7 table ++ (w ∷ drop 7 table)
+
+-- `ACCEPTED 1 10 3`
+abbrev accepts : Answer Certificate
+accepts = accepted (record { b = 1; whole = 10; nodes = 3 })
+
+answers :
+    (verdictAnswer (computed timeline table) ≡ accepts) ×
+    (verdictAnswer (computed timeline (set table 3 0x90000000)) ≡ refused 19 4) ×
+    (verdictAnswer (computed timeline (set table 9 0x90000009)) ≡ refused 15 9) ×
+    (verdictAnswer (computed timeline blockedTable) ≡ refused 16 4) ×
+    (verdictAnswer (computed above blockedTable) ≡ accepts) ×
+    (verdictAnswer (computed (set timeline 6 0x40020002) table) ≡ refused 4 7) ×
+    (verdictAnswer (computed timeline (boundedTable 0x51001002)) ≡ refused 18 4) ×
+    (verdictAnswer (computed timeline (boundedTable 0x51001003)) ≡ accepts)
+unfolding
+    masked? boundOf boundFields? tighter? tighterOf sum negative? listOf withBound passedBelow source beforeBelow all? empty? inside? withWord
+    among kindOf tableKindOf follows tableFollows numbered? mayFollow? follows? tableFollows? fields? limit? adds? fieldsAt? limitAt? addsAt? faultAt
+    lastFault seenWithKind seenWith indexWithKind indexWith closed zonesWith unlessFault scanFrom scanned firstMissing startSquare wholeAnswer
+    answerOf fields.fields? reading.limit? scan.rowsAllowKind? scan.rowsAllowAt? scan.fieldsAt? scan.limitAt? scan.faultAt scan.lastFault
+    scan.firstRow scan.endRow scan.edgesAt scan.seenWithKind scan.seenWith index.nodesWith index.zonesWith index.unlessFault index.scanFrom
+    index.scanned index.numbersAnswer index.answerOf withLanding withLandings enabledSquare enabledSquares waitedSquare reachSquare
+    successorFinding orElse successorsFrom rowsFrom nodesFrom walked startVerdict verdictAnswer behindModel behindWords behindNodes modelRead
+    tableRead judged computed
+answers = (refl, refl, refl, refl, refl, refl, refl, refl)
+
+-- what is computed is the answer
+answered : (words list : List ℕ) (a : Answer Certificate) → verdictAnswer (computed words list) ≡ a → Judged words list a
+answered words list a e = subst (Judged words list) e (computes words list)
+
+-- C = 2: clock 1 at most 3, clock 2 - clock 1 at most 2, lies inside clock 2 at most 5; not inside at most 4. Clock above 2 and below 3: not empty
+pub cases :
+    Judged timeline table accepts ×
+    Judged timeline (set table 3 0x90000000) (refused 19 4) ×
+    Judged timeline (set table 9 0x90000009) (refused 15 9) ×
+    Judged timeline blockedTable (refused 16 4) ×
+    Judged above blockedTable accepts ×
+    Judged (set timeline 6 0x40020002) table (refused 4 7) ×
+    Judged timeline (boundedTable 0x51001002) (refused 18 4) ×
+    Judged timeline (boundedTable 0x51001003) accepts ×
+    AskedInside 2 (0x51001003 ∷ 0x52101002 ∷ []) (0x52001005 ∷ []) (accepted true) ×
+    AskedInside 2 (0x51001003 ∷ 0x52101002 ∷ []) (0x52001004 ∷ []) (accepted false) ×
+    AskedEmpty 1 (0x50180FFE ∷ 0x51081003 ∷ []) (accepted false)
+cases = (
+  answered _ _ _ (answers .0),
+  answered _ _ _ (answers .1),
+  answered _ _ _ (answers .2),
+  answered _ _ _ (answers .3),
+  answered _ _ _ (answers .4),
+  answered _ _ _ (answers .5),
+  answered _ _ _ (answers .6),
+  answered _ _ _ (answers .7),
+  zone-cases .0,
+  zone-cases .1,
+  zone-cases .2,
+)

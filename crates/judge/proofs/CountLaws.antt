@@ -1,0 +1,107 @@
+-- What a wrong definition of the weighted count or of the certified fraction would break: a count is at most D to the power n, the certified
+-- fraction at most 1, the count for no steps 1 at a target and 0 elsewhere; and what document 01's timeline comes to. Assumes nothing.
+use Prim.Native.Nat.{ℕ, zero, suc, _+_, _*_, _^_, _≤_, zero-le}
+use mathlib.Core.Path.{_≡_, refl}
+use mathlib.Core.Bool.{true, false}
+use mathlib.Core.List.{List, [], _∷_, _++_}
+use mathlib.Core.Option.{some}
+use native.Mathlib.Nat.{le-refl, le-trans, le-of-eq, mul-le-mul-left, add-le-add, add-mul, pow-zero, pow-succ'}
+use lib.Dec.{lit≤}
+use lib.ListN.{getElem?, set}
+use Rattle.zone.proofs.Bools.{by-test}
+use Rattle.zone.specs.Scale.{read, holds?, in?, within}
+use Rattle.zone.specs.Moves.{delayed, masked?, reset}
+use Rattle.zone.specs.Words.{boundOf}
+use Rattle.model.specs.Kinds.{among, kindOf}
+use Rattle.model.specs.Model.{Edge, Action, Model, partsWith, partsOf, modelOf}
+use Rattle.model.specs.States.{State, locationAt, IsStart}
+use Rattle.model.proofs.ZoneLaws.{All, more}
+use Rattle.model.proofs.WellFormed.{weigh, WellFormed}
+use Rattle.table.specs.Table.{Table}
+use Rattle.judge.specs.Choices.{later, landing, invariant?, throughout?, land?, allowed?}
+use Rattle.judge.specs.Schedulers.{choose, Scheduler, edgesCount, choiceCount, moveCount, atTarget?, weightedCount}
+use Rattle.judge.specs.Acceptance.{Accepted, certified}
+use Rattle.judge.proofs.SchedulerLaws.{by-move, some-one, none-some}
+
+-- ---- a weighted count is a part of D to the power n
+
+all-there : {A : Type 0} {P : A → Type 0} (xs : List A) (i : ℕ) (x : A) → All P xs → getElem? xs i ≡ some x → P x
+all-there [] i x ps e = none-some e
+all-there (y ∷ xs) zero x (more p ps) e = rw (← some-one e) p
+all-there (y ∷ xs) (suc i) x (more p ps) e = all-there xs i x ps e
+
+edges-most : (rest : State → ℕ) (u : State) (most : ℕ) → ((s : State) → rest s ≤ most) → (es : List Edge) →
+    edgesCount rest u es ≤ weigh es * most
+unfolding edgesCount weigh
+edges-most rest u most h [] = zero-le
+edges-most rest u most h (e ∷ es) =
+    rw (add-mul (e .weight) (weigh es) most) (add-le-add (mul-le-mul-left (e .weight) (h (landing e u))) (edges-most rest u most h es))
+
+pub count-most : (M : Model) → WellFormed M → (k : ℕ) (σ : Scheduler) (n : ℕ) (before : List State) (s : State) →
+    weightedCount M k σ n before s ≤ M .denominator ^ n
+unfolding weightedCount
+count-most M formed k σ zero before s = by-test (λ (c : ℕ). c ≤ M .denominator ^ zero) (atTarget? M s) _ _ (λ y. le-refl _) (λ y. zero-le)
+count-most M formed k σ (suc n) before s =
+    by-test (λ (c : ℕ). c ≤ M .denominator ^ suc n) (atTarget? M s) _ _ (λ y. le-refl _)
+    λ y. by-move M k s (weightedCount M k σ n history) (λ c. c ≤ M .denominator ^ suc n) (σ history) zero-le
+    (λ t a A e z. chosen (λ next. count-most M formed k σ n history next) (later s t) A
+    (all-there (locationAt M (s .location) .actions) a A (formed .actions (s .location)) e .weights))
+  where
+    history : List State
+    history = before ++ (s ∷ [])
+
+    chosen : ((next : State) → weightedCount M k σ n history next ≤ M .denominator ^ n) → (u : State) (A : Action) →
+        weigh (A .edges) ≡ M .denominator → edgesCount (weightedCount M k σ n history) u (A .edges) ≤ M .denominator ^ suc n
+    chosen all u A w =
+        le-trans (edges-most (weightedCount M k σ n history) u (M .denominator ^ n) all (A .edges)) (le-of-eq (rw (w, pow-succ')))
+
+-- ---- the certified fraction is at most 1
+
+pub certified-most : (M : Model) (W : Table) → Accepted M W → certified W ≤ W .whole
+unfolding certified
+certified-most M W ok = ok .nodes (W .start) (ok .start .exists) .value
+
+-- ---- no steps: a target counts 1, another state 0
+
+pub count-zero-target : (M : Model) (k : ℕ) (σ : Scheduler) (before : List State) (s : State) → atTarget? M s ≡ true →
+    weightedCount M k σ 0 before s ≡ 1
+unfolding weightedCount
+count-zero-target M k σ before s e = rw e (pow-zero (M .denominator))
+
+pub count-zero-elsewhere : (M : Model) (k : ℕ) (σ : Scheduler) (before : List State) (s : State) → atTarget? M s ≡ false →
+    weightedCount M k σ 0 before s ≡ 0
+unfolding weightedCount
+count-zero-elsewhere M k σ before s e = rw e
+
+-- ---- document 01's timeline at scale 3: from the start state, a scheduler that waits two units attains 1 of 10 in a step and 10 of 100 in two;
+-- before two units the guard does not hold, and after three the invariant does not
+
+abbrev pub timeline : List ℕ
+timeline =
+    0x1110000A ∷ 0x20000000 ∷ 0x51001003 ∷ 0x30000000 ∷ 0x50100FFE ∷ 0x40010009 ∷ 0x40020001 ∷ 0x20000000 ∷ 0x20000001 ∷ 0x60000000 ∷
+    0x51001000 ∷ []
+
+abbrev pub waits : ℕ → Scheduler
+waits t history = choose (record { delay = t; action = 0 })
+
+abbrev pub initial : State
+initial = record { location = 0; valuation = λ i. 0 }
+
+-- the timeline with its target at the other end of the action: there the edge of weight 9 counts
+abbrev pub otherTimeline : List ℕ
+otherTimeline = set (set timeline 7 0x20000001) 8 0x20000000
+
+abbrev pub attains : List ℕ → ℕ → ℕ → ℕ
+attains words t n = weightedCount (modelOf words) 3 (waits t) n [] initial
+
+pub initial-starts : IsStart (modelOf timeline) 3 initial
+unfolding among kindOf boundOf partsWith partsOf modelOf locationAt read holds? in? within
+initial-starts = record { location = refl; state = record { exists = lit≤ tt; invariant = tt }; bounds = tt }
+
+pub attained :
+    (attains timeline 6 1 ≡ 1) × (attains timeline 6 2 ≡ 10) × (attains timeline 9 1 ≡ 1) × (attains timeline 5 1 ≡ 0) ×
+    (attains timeline 10 1 ≡ 0) × (attains otherTimeline 6 1 ≡ 9)
+unfolding
+    among kindOf boundOf partsWith partsOf modelOf locationAt read holds? in? delayed masked? reset
+    later landing invariant? throughout? land? allowed? edgesCount choiceCount moveCount atTarget? weightedCount
+attained = (refl, refl, refl, refl, refl, refl)

@@ -1,0 +1,154 @@
+-- Demand 3: what an accepted table certifies bounds every scheduler. From acceptance alone, by induction on the number of steps, for every node
+-- that holds the present state. Assumes nothing.
+use Prim.Native.Nat.{ℕ, zero, suc, _+_, _*_, _^_, _≤_, _<_, zero-le}
+use mathlib.Core.Path.{_≡_, refl, sym, subst, _∙_}
+use mathlib.Core.Bool.{true, false, _&&_}
+use mathlib.Core.List.{List, [], _∷_, _++_}
+use mathlib.Core.Option.{some}
+use native.Mathlib.Nat.{mul-le-mul-left, mul-le-mul-right, add-mul, zero-mul, add-le-add, le-trans, le-refl, le-of-eq, pow-succ', mul-comm, mul-assoc}
+use lib.Dec.{T}
+use lib.ListN.{getElem?, length}
+use Rattle.zone.specs.Scale.{in?, within}
+use Rattle.zone.specs.Moves.{reset}
+use Rattle.zone.proofs.Bools.{by-test, both}
+use Rattle.zone.proofs.Attained.{delayed-zero}
+use Rattle.model.specs.Model.{Edge, Action, Model}
+use Rattle.model.specs.States.{State, locationAt, IsStart}
+use Rattle.table.specs.Table.{Successor, Row, blockedRow, successorRow, Table, nodeAt, rowActions}
+use Rattle.judge.specs.Choices.{later, landing, invariant?, throughout?, land?, allowed?}
+use Rattle.judge.specs.Schedulers.{Scheduler, edgesCount, atTarget?, weightedCount, BoundsEvery}
+use Rattle.judge.specs.Acceptance.{Reach, Pairwise, rowSum, SuccessorFits, RowFits, startValuations, Accepted, certified}
+use Rattle.judge.proofs.SchedulerLaws.{by-move, some-one, none-some}
+
+-- the node numbered n holds the state s
+record Holds (W : Table) (k n : ℕ) (s : State) : Type 0 where
+  exists : n < length (W .nodes)
+  location : s .location ≡ nodeAt W n .location
+  zone : within (nodeAt W n .zone) k (s .valuation)
+
+-- ---- rows and successors
+
+-- the second of each two, by the number of the first
+pair-at : {A B : Type 0} (P : A → B → Type 0) (xs : List A) (ys : List B) (i : ℕ) (x : A) → Pairwise P xs ys → getElem? xs i ≡ some x →
+    (y : B) × P x y
+pair-at P [] ys i x ps e = none-some e
+pair-at P (x′ ∷ xs) [] i x ps e = absurd ps
+pair-at P (x′ ∷ xs) (y ∷ ys) zero x ps e = (y, subst (λ z. P z y) (some-one e) (ps .0))
+pair-at P (x′ ∷ xs) (y ∷ ys) (suc i) x ps e = pair-at P xs ys i x (ps .1) e
+
+-- a bound for each successor is one for the row
+sums :
+    (W : Table) (rest : State → ℕ) (u : State) (whole power : ℕ) (P : Edge → Successor → Type 0) →
+    ((e : Edge) (s : Successor) → P e s → rest (landing e u) * whole ≤ nodeAt W (s .node) .value * power) →
+    (es : List Edge) (ss : List Successor) → Pairwise P es ss → edgesCount rest u es * whole ≤ rowSum W es ss * power
+unfolding edgesCount rowSum
+sums W rest u whole power P f [] [] ps = rw (zero-mul whole) zero-le
+sums W rest u whole power P f [] (s ∷ ss) ps = absurd ps
+sums W rest u whole power P f (e ∷ es) [] ps = absurd ps
+sums W rest u whole power P f (e ∷ es) (s ∷ ss) ps =
+    simp (add-mul, mul-assoc) (add-le-add (mul-le-mul-left (e .weight) (f e s (ps .0))) (sums W rest u whole power P f es ss (ps .1)))
+
+-- ---- an allowed choice is one from a state
+invariant-now : (M : Model) (k : ℕ) (s : State) (t : ℕ) → T (throughout? M k s t) → T (invariant? M k (later s 0))
+unfolding throughout?
+invariant-now M k s zero h = h
+invariant-now M k s (suc t) h = invariant-now M k s t (both (throughout? M k s t) (invariant? M k (later s (suc t))) h .0)
+
+allowed-invariant : (M : Model) (k : ℕ) (s : State) (A : Action) (t : ℕ) → T (allowed? M k s A t) →
+    within (locationAt M (s .location) .invariant) k (s .valuation)
+unfolding allowed? invariant? later within
+allowed-invariant M k s A t h =
+    let guard = in? k (later s t .valuation) (A .guard) in
+    let lands = land? M k (A .edges) (later s t) in
+    let through : T (throughout? M k s t) = both (throughout? M k s t) guard (both (throughout? M k s t && guard) lands h .0) .0 in
+    subst (λ u. T (in? k u (locationAt M (s .location) .invariant))) (delayed-zero (s .valuation)) (invariant-now M k s t through)
+
+-- ---- the bound
+module _ (M : Model) (W : Table) (ok : Accepted M W) (k : ℕ) (positive : 1 ≤ k) (σ : Scheduler) where
+  -- from a state that a node holds, whatever the states before, no weighted count for n steps is above the node's value
+  abbrev Bounded : ℕ → Type 0
+  Bounded n =
+      (b : ℕ) (before : List State) (s : State) → Holds W k b s →
+      weightedCount M k σ n before s * W .whole ≤ nodeAt W b .value * M .denominator ^ n
+
+  -- a target node has the value V
+  at-target : (n b : ℕ) (s : State) → Holds W k b s → atTarget? M s ≡ true → M .denominator ^ n * W .whole ≤ nodeAt W b .value * M .denominator ^ n
+  unfolding atTarget?
+  at-target n b s H y =
+      let sure : nodeAt W b .value ≡ W .whole = ok .nodes b (H .exists) .target (rw (← H .location, y) tt) in
+      rw (sure, mul-comm (M .denominator ^ n) (W .whole)) (le-refl _)
+
+  -- elsewhere each action has a row
+  row-for : (b : ℕ) (s : State) → Holds W k b s → atTarget? M s ≡ false → (a : ℕ) (A : Action) →
+      getElem? (locationAt M (s .location) .actions) a ≡ some A → (r : Row) × RowFits M W (nodeAt W b) A r
+  unfolding atTarget? rowActions
+  row-for b s H n a A e =
+      let elsewhere : locationAt M (nodeAt W b .location) .target ≡ false = rw (← H .location) n in
+      pair-at (RowFits M W (nodeAt W b)) (locationAt M (nodeAt W b .location) .actions) (nodeAt W b .rows) a A
+      (rw elsewhere at (ok .nodes b (H .exists) .rows)) (rw (← H .location) e)
+
+  -- an allowed choice from a state that a node holds attains what is in the row's reach
+  reached : (b : ℕ) (s : State) → Holds W k b s → (A : Action) (t : ℕ) → T (allowed? M k s A t) →
+      Reach M (nodeAt W b) A k (later s t .valuation)
+  reached b s H A t y = record {
+    state = s;
+    location = H .location;
+    isState = record { exists = rw (H .location) (ok .nodes b (H .exists) .exists); invariant = allowed-invariant M k s A t y };
+    zone = H .zone;
+    delay = t;
+    allowed = y;
+    attains = refl;
+  }
+
+  -- where every weighted count for n steps is bounded, so is what a choice comes to
+  onward : (n : ℕ) → Bounded n → (b : ℕ) (history : List State) (A : Action) (u : State) → Reach M (nodeAt W b) A k (u .valuation) → (r : Row) →
+      RowFits M W (nodeAt W b) A r →
+      edgesCount (weightedCount M k σ n history) u (A .edges) * W .whole ≤ nodeAt W b .value * M .denominator ^ suc n
+  unfolding landing
+  onward n all b history A u R (blockedRow p) f = absurd (f .at k positive (u .valuation) R)
+  onward n all b history A u R (successorRow p ss) f =
+      le-trans
+      (sums W (weightedCount M k σ n history) u (W .whole) (M .denominator ^ n) (SuccessorFits M W (nodeAt W b) A) lands (A .edges) ss
+      (f .successors))
+      (le-trans (mul-le-mul-right (M .denominator ^ n) (f .sum)) (le-of-eq total))
+    where
+      lands : (e : Edge) (s : Successor) → SuccessorFits M W (nodeAt W b) A e s →
+          weightedCount M k σ n history (landing e u) * W .whole ≤ nodeAt W (s .node) .value * M .denominator ^ n
+      lands e s x = all (s .node) history (landing e u) (record {
+        exists = x .exists;
+        location = sym (x .location);
+        zone = x .inside .at k positive (reset (e .mask) (u .valuation)) (record { before = u .valuation; was = R; lands = refl });
+      })
+
+      total : M .denominator * nodeAt W b .value * M .denominator ^ n ≡ nodeAt W b .value * M .denominator ^ suc n
+      total = rw (pow-succ', mul-comm (M .denominator) (nodeAt W b .value)) (mul-assoc (nodeAt W b .value) (M .denominator) (M .denominator ^ n))
+
+  bounded : (n : ℕ) → Bounded n
+  unfolding weightedCount
+  bounded zero b before s H =
+      by-test (λ (c : ℕ). c * W .whole ≤ nodeAt W b .value * M .denominator ^ zero) (atTarget? M s) _ _ (at-target zero b s H)
+      (λ y. rw zero-mul zero-le)
+  bounded (suc n) b before s H =
+      by-test (λ (c : ℕ). c * W .whole ≤ nodeAt W b .value * M .denominator ^ suc n) (atTarget? M s) _ _ (at-target (suc n) b s H)
+      λ y. by-move M k s (weightedCount M k σ n history) (λ c. c * W .whole ≤ nodeAt W b .value * M .denominator ^ suc n) (σ history)
+      (rw zero-mul zero-le)
+      (λ t a A e z. let row = row-for b s H y a A e in
+      onward n (bounded n) b history A (later s t) (reached b s H A t (rw z tt)) (row .0) (row .1))
+    where
+      history : List State
+      history = before ++ (s ∷ [])
+
+-- a start state's valuation is a start valuation
+starts : (M : Model) (k : ℕ) (s : State) → IsStart M k s → startValuations M k (s .valuation)
+unfolding startValuations
+starts M k s S = subst (λ (l : ℕ). IsStart M k (record { location = l; valuation = s .valuation })) (S .location) S
+
+pub demand-3 : (M : Model) (W : Table) → Accepted M W → BoundsEvery M (certified W) (W .whole)
+unfolding certified
+demand-3 M W ok = record {
+  bounds = λ k positive s S σ n. bounded M W ok k positive σ n (W .start) [] s (record {
+    exists = ok .start .exists;
+    location = S .location ∙ sym (ok .start .location);
+    zone = ok .start .inside .at k positive (s .valuation) (starts M k s S);
+  });
+}

@@ -1,0 +1,85 @@
+-- The words from a place on, nodes by their numbers, and the actions of a location with theirs, as the walk meets them. Assumes nothing.
+use Prim.Native.Nat.{ℕ, zero, suc, _+_, _-_, _≤_, _<_}
+use mathlib.Core.Path.{_≡_, sym, ap, subst, _∙_}
+use mathlib.Core.List.{List, [], _∷_}
+use native.Mathlib.Omega.{arith}
+use native.Mathlib.Nat.{zero-add}
+use lib.ListN.{getD, length, drop}
+use lib.Seq.{getD-drop, drop-drop}
+use Rattle.model.specs.Model.{Action, Model}
+use Rattle.model.specs.States.{locationAt}
+use Rattle.model.specs.Indexed.{Each, ActionAt, LocationAt, Indexed}
+use Rattle.model.specs.declared.read.ModelRead.{ModelRead}
+use Rattle.model.proofs.ZoneLaws.{All, empty, more}
+use Rattle.model.proofs.GoodModel.{GoodAction, GoodModel}
+use Rattle.model.proofs.WellFormed.{FormedAction, WellFormed}
+use Rattle.model.proofs.IndexLaws.{each-at, location-at}
+use Rattle.table.specs.Scan.{edgesAt}
+use Rattle.table.specs.Table.{Table, noNode, nodeAt}
+use Rattle.table.specs.Indexed.{NodeIs, TableIndexed}
+use Rattle.table.specs.declared.read.TableRead.{TableRead}
+use Rattle.table.proofs.Shape.{NodeShaped, Shaped}
+
+-- ---- the words from a place on
+
+pub front : (at : ℕ) (words ws : List ℕ) → drop at words ≡ ws → getD words at 0 ≡ getD ws 0 0
+front at words ws e =
+    let z : at + 0 ≡ at = omega arith in
+    let look : getD (drop at words) 0 0 ≡ getD words (at + 0) 0 = getD-drop at words 0 0 in
+    sym (rw z at look) ∙ ap (λ (v : List ℕ). getD v 0 0) e
+
+pub behind : (n at : ℕ) (words ws : List ℕ) → drop at words ≡ ws → drop (at + n) words ≡ drop n ws
+behind n at words ws e = sym (drop-drop n at words) ∙ ap (drop n) e
+
+-- ---- the nodes
+
+-- what holds of all holds of the one at i
+all-below : {A : Type 0} {P : A → Type 0} {xs : List A} (d : A) (i : ℕ) → All P xs → i < length xs → P (getD xs i d)
+all-below d i empty l = absurd (omega arith)
+all-below d zero (more p ps) l = p
+all-below d (suc i) (more p ps) l = all-below d i ps (omega arith)
+
+pub node-at : {W : Table} {t : TableRead} → TableIndexed W t → (s : ℕ) → s < length (W .nodes) → NodeIs t s (nodeAt W s)
+unfolding nodeAt
+node-at {W} {t} i s l =
+    subst (λ (m : ℕ). NodeIs t m (getD (W .nodes) s noNode)) (zero-add s) (each-at (NodeIs t) 0 (W .nodes) noNode (i .each) s l)
+
+pub shaped-at : {M : Model} {words : List ℕ} {W : Table} → Shaped M words W → (s : ℕ) → s < length (W .nodes) → NodeShaped M W words (nodeAt W s)
+unfolding nodeAt
+shaped-at sh s l = all-below noNode s (sh .nodes) l
+
+-- ---- the actions
+
+-- an action with its number, and what holds of it in an accepted model
+pub record ActionIs (M : Model) (r : ModelRead) (a : ℕ) (A : Action) : Type 0 where
+  pub at : ActionAt r a A
+  pub good : GoodAction A
+  pub formed : FormedAction M A
+  pub limit : a < 32
+
+module _ (M : Model) (r : ModelRead) (x : Indexed M r) (good : GoodModel M) (formed : WellFormed M) where
+  actions-from :
+      (As : List Action) (a : ℕ) → Each (ActionAt r) a As → All GoodAction As → All (FormedAction M) As → a + length As ≤ 32 →
+      Each (ActionIs M r) a As
+  unfolding Each
+  actions-from [] a e empty empty l = tt
+  actions-from (A ∷ As) a e (more g gs) (more f fs) l =
+      (record { at = e .0; good = g; formed = f; limit = omega arith }, actions-from As (suc a) (e .1) gs fs (omega arith))
+
+  pub actions-at : (l : ℕ) → l < length (M .locations) → Each (ActionIs M r) (getD (r .index .actions) l 0) (locationAt M l .actions)
+  actions-at l h =
+      let L : LocationAt r l (locationAt M l) = location-at x l h in
+      actions-from (locationAt M l .actions) (getD (r .index .actions) l 0) (L .actions) (good .guards l) (formed .actions l)
+      (omega (arith, L .ends, L .limit))
+
+  -- how many they are
+  pub actions-count : (l : ℕ) → l < length (M .locations) →
+      getD (r .index .actions) (l + 1) 0 - getD (r .index .actions) l 0 ≡ length (locationAt M l .actions)
+  actions-count l h =
+      let e : l + 1 ≡ suc l = omega arith in
+      let ends = location-at x l h .ends in
+      rw e (omega (arith, ends))
+
+pub edges-at : {r : ModelRead} {a : ℕ} {A : Action} → ActionAt r a A → edgesAt (r .index) a ≡ length (A .edges)
+unfolding edgesAt
+edges-at {a = a} x = let e : a + 1 ≡ suc a = omega arith in rw e (omega (arith, x .ends))

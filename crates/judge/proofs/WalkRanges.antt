@@ -1,0 +1,106 @@
+-- What the walk asks of the model and the table holds: every word, zone and number that it looks at is there and within its range. Assumes
+-- nothing.
+use Prim.Native.Nat.{ℕ, suc, _+_, _-_, _≤_, _<_}
+use mathlib.Core.Path.{_≡_, refl, sym, ap, _∙_}
+use mathlib.Core.Bool.{Bool, true, false}
+use mathlib.Core.List.{List, [], _∷_}
+use native.Mathlib.Omega.{arith}
+use lib.ListN.{getD, length, drop, length-drop}
+use Rattle.zone.specs.Squares.{universe, Small}
+use Rattle.zone.specs.declared.zones.Zone.{Zone as Square}
+use Rattle.model.specs.TableKinds.{blocked, isTable}
+use Rattle.model.specs.Model.{Action, Location, Model}
+use Rattle.model.specs.States.{locationAt}
+use Rattle.model.specs.Indexed.{Each, LocationAt, Indexed}
+use Rattle.model.specs.declared.read.ModelRead.{ModelRead}
+use Rattle.model.proofs.ZoneLaws.{small-bounds}
+use Rattle.model.proofs.GoodModel.{GoodModel}
+use Rattle.model.proofs.WellFormed.{WellFormed}
+use Rattle.model.proofs.IndexLaws.{location-at}
+use Rattle.table.specs.Table.{Node, Table, nodeAt, rowActions, tableOf}
+use Rattle.table.specs.Index.{noEntry}
+use Rattle.table.specs.Indexed.{NodeIs, TableIndexed}
+use Rattle.table.specs.declared.read.TableRead.{TableRead}
+use Rattle.table.specs.Scan.{rowSize}
+use Rattle.table.proofs.Shape.{RowStands, RowsStand, NodeShaped, Shaped}
+use Rattle.judge.specs.Reaching.{enabledSquares}
+use Rattle.judge.specs.Walk.{RowsInRange, NodeInRange, WalkInRange}
+use Rattle.judge.proofs.RowLaws.{front, behind, node-at, shaped-at, ActionIs, actions-at, actions-count, edges-at}
+use Rattle.judge.proofs.LandingLaws.{enabled-at}
+use Rattle.judge.proofs.RowReach.{enabled-small}
+
+-- the words of a row that stands are there
+row-there : (b : Bool) (nodes edges at : ℕ) (words ws : List ℕ) → drop at words ≡ ws → RowStands nodes b edges ws →
+    (at < length words) × (at + rowSize b edges ≤ length words)
+unfolding RowStands rowSize
+row-there true nodes edges at words ws d s =
+    let size : length ws ≡ length words - at = sym (ap length d) ∙ length-drop at words in
+    (omega arith, omega arith)
+row-there false nodes edges at words ws d s =
+    let size : length ws ≡ length words - at = sym (ap length d) ∙ length-drop at words in
+    let some = s .0 in
+    let there = s .1 in
+    (omega (arith, some, there), omega (arith, some, there))
+
+module _ (M : Model) (words : List ℕ) (r : ModelRead) (t : TableRead) (x : Indexed M r) (good : GoodModel M) (formed : WellFormed M) where
+  abbrev es : List Square
+  es = enabledSquares (r .index) (r .zones)
+
+  enabled-in-range : (a : ℕ) (A : Action) → ActionIs M r a A → Small 4096 (getD es a universe)
+  enabled-in-range a A y = rw (enabled-at (r .index) (r .zones) a (y .limit)) (enabled-small x good (y .at) (y .good) (y .formed .edges))
+
+  rows-in-range :
+      (nodes : ℕ) (As : List Action) (a at : ℕ) (ws : List ℕ) → Each (ActionIs M r) a As → drop at words ≡ ws → RowsStand nodes As ws →
+      RowsInRange words r es t (length As) a at
+  unfolding Each RowsStand RowsInRange
+  rows-in-range nodes [] a at ws y d s = tt
+  rows-in-range nodes (A ∷ As) a at ws y d s =
+      let b : Bool = isTable blocked (getD ws 0 0) in
+      let n : ℕ = length (A .edges) in
+      let there = row-there b nodes n at words ws d (s .0) in
+      let rest : RowsInRange words r es t (length As) (suc a) (at + rowSize b n) =
+      rows-in-range nodes As (suc a) (at + rowSize b n) (drop (rowSize b n) ws) (y .1) (behind (rowSize b n) at words ws d) (s .1) in
+      rw (front at words ws d, edges-at (y .0 .at))
+      (enabled-in-range a A (y .0), there .0, there .1, rest)
+
+  module _ (W : Table) (n : ℕ) (N : Node) (k : NodeIs t n N) (g : NodeShaped M W words N) where
+    abbrev L : Location
+    L = locationAt M (N .location)
+
+    location-is : LocationAt r (N .location) L
+    location-is = location-at x (N .location) (g .exists)
+
+    node-in-range : getD (r .index .targets) (getD (t .nodes) n noEntry .location) false ≡ false →
+        NodeInRange words r es t n (getD (t .nodes) n noEntry)
+    unfolding rowActions
+    node-in-range e =
+        let next : N .location + 1 ≡ suc (N .location) = omega arith in
+        let other : L .target ≡ false = sym (location-is .target) ∙ (rw (k .location) at e) in
+        let stands : RowsStand (length (W .nodes)) (L .actions) (drop (suc (N .place)) words) = rw other at (g .stands) in
+        let rows : RowsInRange words r es t (length (L .actions)) (getD (r .index .actions) (N .location) 0) (suc (N .place)) =
+        rows-in-range (length (W .nodes)) (L .actions) _ (suc (N .place)) _ (actions-at M r x good formed (N .location) (g .exists)) refl stands in
+        record {
+          zone = rw (k .zone) (small-bounds (N .zone) (g .zone));
+          invariant = rw (k .location, location-is .invariant) (small-bounds (L .invariant) (good .invariants (N .location)));
+          place = rw (k .place) (g .place);
+          actions = rw (k .location, next) (location-is .limit);
+          rows = rw (k .location, k .place, actions-count M r x good formed (N .location) (g .exists)) rows;
+        }
+
+module _ (M : Model) (words : List ℕ) (r : ModelRead) (t : TableRead) (x : Indexed M r) (good : GoodModel M) (formed : WellFormed M)
+    (i : TableIndexed (tableOf M words) t) (sh : Shaped M words (tableOf M words)) where
+  pub walk-in-range : WalkInRange words r (enabledSquares (r .index) (r .zones)) t
+  walk-in-range = record {
+    count = i .limit;
+    edges = record { at = x .edgeLimits };
+    locations = λ n l.
+        let exists = shaped-at sh n (below n l) .exists in
+        rw (node-at i n (below n l) .location) (omega (arith, exists, x .locations, x .limit));
+    nodes = λ n l. node-in-range M words r t x good formed W n (nodeAt W n) (node-at i n (below n l)) (shaped-at sh n (below n l));
+  }
+    where
+      W : Table
+      W = tableOf M words
+
+      below : (n : ℕ) → n < t .count → n < length (W .nodes)
+      below n l = omega (arith, i .count)

@@ -1,0 +1,23 @@
+use mathlib.Core.Path.{ap, _∙_}
+use native.Mathlib.Omega.{arith}
+use borrow.Author.Needs.{needs}
+use Rattle.zone.specs.Squares.{tightened}
+use Rattle.judge.specs.Reaching.{reachSquare}
+use Rattle.judge.proofs.ReachSizes.{met-fits}
+use Rattle.judge.proofs.reaching.reach_of.Statement.{statement}
+use Rattle.judge.proofs.reaching.reach_of.Tie as tie
+
+meet-requires : tie.Need-meet-requires
+meet-requires c κs = search needs
+
+tighten-requires : tie.Need-tighten-requires
+tighten-requires c κs =
+    let start = c .before in
+    met-fits (start .args .waited) (start .args .enabled) _ (c .meet .ensures) (start .pre .0) (start .pre .1) (omega arith) (omega arith)
+
+returns : tie.Need-returns
+unfolding reachSquare
+returns c = c .tighten .ensures ∙ ap tightened (c .before .meet .ensures)
+
+pub reach-of-spec : {M : Type 1} → statement M
+reach-of-spec = tie.close (tie.spec meet-requires tighten-requires returns)

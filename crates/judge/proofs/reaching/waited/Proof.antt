@@ -1,0 +1,35 @@
+use mathlib.Core.Path.{ap, _∙_}
+use native.Mathlib.Omega.{arith}
+use borrow.Author.Needs.{needs}
+use Rattle.zone.specs.Squares.{met, tightened, delayedSquare}
+use Rattle.judge.specs.Reaching.{waitedSquare}
+use Rattle.judge.proofs.ReachSizes.{met-fits}
+use Rattle.judge.proofs.reaching.waited.Statement.{statement}
+use Rattle.judge.proofs.reaching.waited.Tie as tie
+
+meet-requires : tie.Need-meet-requires
+meet-requires c κs = search needs
+
+tighten-requires : tie.Need-tighten-requires
+tighten-requires c κs =
+    let start = c .before in
+    met-fits (start .args .zone) (start .args .invariant) _ (c .meet .ensures) (start .pre .0) (start .pre .1) (omega arith) (omega arith)
+
+delay-requires : tie.Need-delay-requires
+delay-requires c κs = search needs
+
+meet-requires-2 : tie.Need-meet-requires-2
+meet-requires-2 c κs = search needs
+
+returns : tie.Need-returns
+unfolding waitedSquare
+returns c =
+    let delay = c .before in
+    let tighten = delay .before in
+    c .meet2 .ensures
+    ∙ ap (λ z. met z (tighten .before .before .args .invariant))
+    (delay .delay .ensures ∙ ap delayedSquare (tighten .tighten .ensures ∙ ap tightened (tighten .before .meet .ensures)))
+
+pub waited-spec : {M : Type 1} → statement M
+waited-spec =
+    tie.close (tie.spec meet-requires tighten-requires delay-requires meet-requires-2 returns)

@@ -1,0 +1,75 @@
+use mathlib.Core.Path.{refl, ap}
+use borrow.Author.Needs.{needs}
+use Rattle.model.specs.Reading.{modelAnswer}
+use Rattle.judge.specs.Judging.{verdictAnswer}
+use Rattle.judge.proofs.Handing.{hands, hands-nothing}
+use Rattle.judge.proofs.verdict.model_refused.Statement.{statement}
+use Rattle.judge.proofs.verdict.model_refused.Tie as tie
+
+enum-known-answer : tie.Need-enum-known-answer
+enum-known-answer c = search needs
+
+enum-known-answer-2 : tie.Need-enum-known-answer-2
+enum-known-answer-2 c = search needs
+
+enum-known-answer-3 : tie.Need-enum-known-answer-3
+enum-known-answer-3 c = search needs
+
+enum-known-answer-4 : tie.Need-enum-known-answer-4
+enum-known-answer-4 c = search needs
+
+enum-known-answer-5 : tie.Need-enum-known-answer-5
+enum-known-answer-5 c = search needs
+
+enum-known-answer-6 : tie.Need-enum-known-answer-6
+enum-known-answer-6 c = search needs
+
+enum-told : tie.Need-enum-told
+enum-told c = search needs
+
+returns : tie.Need-returns
+unfolding modelAnswer verdictAnswer
+returns c = hands 1 _ (rw (c .before .answer .given .1)) refl
+
+returns-2 : tie.Need-returns-2
+unfolding modelAnswer verdictAnswer
+returns-2 c = hands 2 _ (rw (c .before .answer2 .given .1)) refl
+
+returns-3 : tie.Need-returns-3
+unfolding modelAnswer verdictAnswer
+returns-3 c = hands 3 _ (rw (c .before .answer3 .given .1)) refl
+
+returns-4 : tie.Need-returns-4
+unfolding modelAnswer verdictAnswer
+returns-4 c = hands 4 _ (rw (c .before .answer4 .given .1)) refl
+
+returns-5 : tie.Need-returns-5
+unfolding modelAnswer verdictAnswer
+returns-5 c = hands 5 _ (rw (c .before .answer5 .given .1)) refl
+
+returns-6 : tie.Need-returns-6
+unfolding modelAnswer verdictAnswer
+returns-6 c = hands 6 _ (rw (c .before .answer6 .given .1)) refl
+
+returns-7 : tie.Need-returns-7
+unfolding modelAnswer
+returns-7 c = hands-nothing _ (ap modelAnswer (c .enum-told .given .1))
+
+pub model-refused-spec : {M : Type 1} → statement M
+model-refused-spec =
+    tie.close
+    (tie.spec
+    enum-known-answer
+    enum-known-answer-2
+    enum-known-answer-3
+    enum-known-answer-4
+    enum-known-answer-5
+    enum-known-answer-6
+    enum-told
+    returns
+    returns-2
+    returns-3
+    returns-4
+    returns-5
+    returns-6
+    returns-7)

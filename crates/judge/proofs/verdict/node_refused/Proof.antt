@@ -1,0 +1,66 @@
+use mathlib.Core.Path.{refl}
+use borrow.Author.Needs.{needs}
+use Rattle.judge.specs.Deciding.{findingAnswer}
+use Rattle.judge.specs.Judging.{verdictAnswer}
+use Rattle.judge.proofs.Handing.{hands, hands-nothing}
+use Rattle.judge.proofs.verdict.node_refused.Statement.{statement}
+use Rattle.judge.proofs.verdict.node_refused.Tie as tie
+
+enum-known-finding : tie.Need-enum-known-finding
+enum-known-finding c = search needs
+
+enum-known-finding-2 : tie.Need-enum-known-finding-2
+enum-known-finding-2 c = search needs
+
+enum-known-finding-3 : tie.Need-enum-known-finding-3
+enum-known-finding-3 c = search needs
+
+enum-known-finding-4 : tie.Need-enum-known-finding-4
+enum-known-finding-4 c = search needs
+
+enum-known-finding-5 : tie.Need-enum-known-finding-5
+enum-known-finding-5 c = search needs
+
+enum-told : tie.Need-enum-told
+enum-told c = search needs
+
+returns : tie.Need-returns
+unfolding findingAnswer verdictAnswer
+returns c = hands 15 _ (rw (c .before .finding .given .1)) refl
+
+returns-2 : tie.Need-returns-2
+unfolding findingAnswer verdictAnswer
+returns-2 c = hands 16 _ (rw (c .before .finding2 .given .1)) refl
+
+returns-3 : tie.Need-returns-3
+unfolding findingAnswer verdictAnswer
+returns-3 c = hands 17 _ (rw (c .before .finding3 .given .1)) refl
+
+returns-4 : tie.Need-returns-4
+unfolding findingAnswer verdictAnswer
+returns-4 c = hands 18 _ (rw (c .before .finding4 .given .1)) refl
+
+returns-5 : tie.Need-returns-5
+unfolding findingAnswer verdictAnswer
+returns-5 c = hands 19 _ (rw (c .before .finding5 .given .1)) refl
+
+returns-6 : tie.Need-returns-6
+unfolding findingAnswer
+returns-6 c = hands-nothing _ (rw (c .enum-told .given .1))
+
+pub node-refused-spec : {M : Type 1} → statement M
+node-refused-spec =
+    tie.close
+    (tie.spec
+    enum-known-finding
+    enum-known-finding-2
+    enum-known-finding-3
+    enum-known-finding-4
+    enum-known-finding-5
+    enum-told
+    returns
+    returns-2
+    returns-3
+    returns-4
+    returns-5
+    returns-6)

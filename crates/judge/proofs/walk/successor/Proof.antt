@@ -1,0 +1,80 @@
+use mathlib.Core.Path.{_≡_, _∙_}
+use mathlib.Core.Bool.{true}
+use lib.Dec.{eqb}
+use borrow.Author.Needs.{needs}
+use borrow.Author.Tests.{eq-eqb, ne-eqb}
+use Rattle.model.specs.Fields.{landsAt}
+use Rattle.judge.specs.Walk.{successorFinding}
+use Rattle.judge.proofs.walk.successor.Statement.{statement}
+use Rattle.judge.proofs.walk.successor.Tie as tie
+
+lands-at-requires : tie.Need-lands-at-requires
+lands-at-requires c κs = search needs
+
+cast-if1 : tie.Need-cast-if1
+cast-if1 c = search needs
+
+returns : tie.Need-returns
+unfolding successorFinding
+returns c =
+    let a = c .before .before .lands-at .ensures in
+    rw (ne-eqb _ _ (λ q. c .if1 .taken (rw (a .0) q)))
+
+-- past the first test: the edge's location
+at : (c : tie.Else1) → let args = c .before .before .before .args in eqb (args .node .location) (landsAt (args .edge)) ≡ true
+at c = eq-eqb _ _ (c .if1 .left ∙ c .before .before .lands-at .ensures .0)
+
+returns-2 : tie.Need-returns-2
+unfolding successorFinding
+returns-2 c = rw (at (c .before), c .if2 .taken)
+
+mask-of-requires : tie.Need-mask-of-requires
+mask-of-requires c κs = search needs
+
+reset-requires : tie.Need-reset-requires
+reset-requires c κs = search needs
+
+inside-requires : tie.Need-inside-requires
+inside-requires c κs = search needs
+
+returns-3 : tie.Need-returns-3
+unfolding successorFinding
+returns-3 c =
+    let inside = c .before in
+    let mask = inside .before .before in
+    rw (
+      at (mask .before .before),
+      mask .before .if2 .left,
+      ← mask .mask-of .ensures,
+      ← inside .before .reset .ensures,
+      ← inside .inside .ensures,
+      c .if3 .taken,
+    )
+
+returns-4 : tie.Need-returns-4
+unfolding successorFinding
+returns-4 c =
+    let inside = c .before in
+    let mask = inside .before .before in
+    rw (
+      at (mask .before .before),
+      mask .before .if2 .left,
+      ← mask .mask-of .ensures,
+      ← inside .before .reset .ensures,
+      ← inside .inside .ensures,
+      c .if3 .left,
+    )
+
+pub successor-spec : {M : Type 1} → statement M
+successor-spec =
+    tie.close
+    (tie.spec
+    lands-at-requires
+    cast-if1
+    returns
+    returns-2
+    mask-of-requires
+    reset-requires
+    inside-requires
+    returns-3
+    returns-4)

@@ -1,0 +1,102 @@
+-- Document 01, "When a table is accepted". Assumes nothing.
+use Prim.Native.Nat.{ℕ, _+_, _*_, _≤_, _<_}
+use mathlib.Core.Path.{_≡_}
+use mathlib.Core.List.{List, [], _∷_}
+use lib.ListN.{length}
+use lib.Dec.{T}
+use Rattle.zone.specs.Scale.{Valuation, Region, within, Empty, Inside}
+use Rattle.zone.specs.Moves.{ResetOf}
+use Rattle.model.specs.Model.{Edge, Action, Model}
+use Rattle.model.specs.States.{State, locationAt, IsState, IsStart}
+use Rattle.table.specs.Table.{Successor, Row, blockedRow, successorRow, Node, Table, nodeAt, rowActions}
+use Rattle.judge.specs.Choices.{later, allowed?}
+
+-- a row's reach: every valuation, before resets, that an allowed choice of its action attains from a state in the node's zone
+pub record Reach (M : Model) (N : Node) (A : Action) (k : ℕ) (v : Valuation) : Type 0 where
+  pub state : State
+  pub location : state .location ≡ N .location
+  pub isState : IsState M k state
+  pub zone : within (N .zone) k (state .valuation)
+  pub delay : ℕ
+  pub allowed : T (allowed? M k state A delay)
+  pub attains : later state delay .valuation ≡ v
+
+-- one element of the second list for each of the first, in order, and P of each two
+abbrev pub Pairwise : {A B : Type 0} → (A → B → Type 0) → List A → List B → Type 0
+Pairwise P [] [] = Unit {0}
+Pairwise P [] (y ∷ ys) = ⊥
+Pairwise P (x ∷ xs) [] = ⊥
+Pairwise P (x ∷ xs) (y ∷ ys) = P x y × Pairwise P xs ys
+
+-- the sum of weight × successor value
+unfoldable pub rowSum : Table → List Edge → List Successor → ℕ
+rowSum W [] ss = 0
+rowSum W (e ∷ es) [] = 0
+rowSum W (e ∷ es) (s ∷ ss) = e .weight * nodeAt W (s .node) .value + rowSum W es ss
+
+-- the successor has the edge's location
+abbrev pub HasLocation : Table → Edge → Successor → Type 0
+HasLocation W e s = nodeAt W (s .node) .location ≡ e .to
+
+-- its zone holds the whole reset reach: the reach with the edge's masked clocks set to 0
+abbrev pub HoldsReach : Model → Table → Node → Action → Edge → Successor → Type 0
+HoldsReach M W N A e s = Inside (ResetOf (e .mask) (Reach M N A)) (within (nodeAt W (s .node) .zone))
+
+-- the sum of weight × successor value is at most D × the node's value
+abbrev pub SumFits : Model → Table → Node → Action → List Successor → Type 0
+SumFits M W N A ss = rowSum W (A .edges) ss ≤ M .denominator * N .value
+
+-- the number of the successor is that of a node, as "Words" asks
+pub record SuccessorFits (M : Model) (W : Table) (N : Node) (A : Action) (e : Edge) (s : Successor) : Type 0 where
+  pub exists : s .node < length (W .nodes)
+  pub location : HasLocation W e s
+  pub inside : HoldsReach M W N A e s
+
+-- a successor for each edge, and the sum
+pub record SuccessorsFit (M : Model) (W : Table) (N : Node) (A : Action) (ss : List Successor) : Type 0 where
+  pub successors : Pairwise (SuccessorFits M W N A) (A .edges) ss
+  pub sum : SumFits M W N A ss
+
+-- blocked: the reach is empty. A row with successors is judged as such even if its reach is empty
+abbrev pub RowFits : Model → Table → Node → Action → Row → Type 0
+RowFits M W N A (blockedRow p) = Empty (Reach M N A)
+RowFits M W N A (successorRow p ss) = SuccessorsFit M W N A ss
+
+-- a target node has value V
+abbrev pub HasWhole : Table → Node → Type 0
+HasWhole W N = N .value ≡ W .whole
+
+-- another node has a row for each action of its location. Its location exists and its value is at most V, as "Words" asks
+pub record NodeFits (M : Model) (W : Table) (N : Node) : Type 0 where
+  pub exists : N .location < length (M .locations)
+  pub value : N .value ≤ W .whole
+  pub target : T (locationAt M (N .location) .target) → HasWhole W N
+  pub rows : Pairwise (RowFits M W N) (rowActions (locationAt M (N .location))) (N .rows)
+
+-- the start valuations
+unfoldable pub startValuations : Model → Region
+startValuations M k v = IsStart M k (record { location = M .start; valuation = v })
+
+-- the start node has the start location
+abbrev pub HasStartLocation : Model → Table → Type 0
+HasStartLocation M W = nodeAt W (W .start) .location ≡ M .start
+
+-- its zone holds all start valuations
+abbrev pub HoldsStart : Model → Table → Type 0
+HoldsStart M W = Inside (startValuations M) (within (nodeAt W (W .start) .zone))
+
+-- its number is that of a node, as "Words" asks
+pub record StartFits (M : Model) (W : Table) : Type 0 where
+  pub exists : W .start < length (W .nodes)
+  pub location : HasStartLocation M W
+  pub inside : HoldsStart M W
+
+-- V is at least 1, as "Words" asks
+pub record Accepted (M : Model) (W : Table) : Type 0 where
+  pub whole : 1 ≤ W .whole
+  pub nodes : (n : ℕ) → n < length (W .nodes) → NodeFits M W (nodeAt W n)
+  pub start : StartFits M W
+
+-- the start node's value is b, and b/V is the certified fraction
+unfoldable pub certified : Table → ℕ
+certified W = nodeAt W (W .start) .value

@@ -1,0 +1,7 @@
+pub mod Choices
+pub mod Schedulers
+pub mod Acceptance
+pub mod Judging
+pub mod Reaching
+pub mod Walk
+pub mod Deciding

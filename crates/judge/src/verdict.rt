@@ -1,0 +1,145 @@
+ghost use mathlib.Core.Path.{_≡_};
+ghost use Rattle.model.specs.Reading.{modelAnswer};
+ghost use Rattle.table.specs.Reading.{tableAnswer};
+ghost use Rattle.judge.specs.Judging.{Judged, Exactly, BoundsSchedulers, verdictAnswer};
+ghost use Rattle.judge.specs.Deciding.{findingAnswer, HandsOn, startVerdict};
+use crate::reaching;
+use crate::walk;
+use crate::walk::Finding;
+use model::read as models;
+use model::read::ModelAnswer;
+use table::nodes::NodeEntry;
+use table::read as tables;
+use table::read::TableAnswer;
+use zone::zones::Zone;
+
+// What an acceptance gives: the certified fraction b / V, and how many nodes the table has.
+pub struct Certificate {
+    pub b: u32,
+    pub whole: u32, // V
+    pub nodes: usize,
+}
+
+// What an accepted table certifies, or the refusal with its place: 1 to 6 in the model, the others in the table.
+pub enum Verdict {
+    Accepted(Certificate),
+    BadModelKind(usize),
+    BadModelField(usize),
+    OverModelLimit(usize),
+    BadWeights(usize),
+    NoLocation(usize),
+    NoStart(usize),
+    BadKind(usize),
+    BadField(usize),
+    OverLimit(usize),
+    NoNode(usize),
+    BadTargetValue(usize),
+    NotBlocked(usize),
+    WrongLocation(usize),
+    NotInside(usize),
+    SumTooLarge(usize),
+    WrongStart(usize),
+    StartNotInside(usize),
+}
+
+// The refusal of a model, handed on.
+pub(crate) fn model_refused(answer: ModelAnswer) -> Verdict
+    ensures { λ r. ⌜ HandsOn (modelAnswer answer) (verdictAnswer r) ⌝ }
+{
+    match answer {
+        ModelAnswer::BadKind(place) => Verdict::BadModelKind(place),
+        ModelAnswer::BadField(place) => Verdict::BadModelField(place),
+        ModelAnswer::OverLimit(place) => Verdict::OverModelLimit(place),
+        ModelAnswer::BadWeights(place) => Verdict::BadWeights(place),
+        ModelAnswer::NoLocation(place) => Verdict::NoLocation(place),
+        ModelAnswer::NoStart(place) => Verdict::NoStart(place),
+        ModelAnswer::Accepted(_) => Verdict::NoStart(0), // no refusal: never asked for
+    }
+}
+
+// The refusal of a table's words, handed on.
+pub(crate) fn words_refused(answer: TableAnswer) -> Verdict
+    ensures { λ r. ⌜ HandsOn (tableAnswer answer) (verdictAnswer r) ⌝ }
+{
+    match answer {
+        TableAnswer::BadKind(place) => Verdict::BadKind(place),
+        TableAnswer::BadField(place) => Verdict::BadField(place),
+        TableAnswer::OverLimit(place) => Verdict::OverLimit(place),
+        TableAnswer::NoNode(place) => Verdict::NoNode(place),
+        TableAnswer::Good => Verdict::NoNode(0), // no refusal: never asked for
+    }
+}
+
+// The refusal of a node, handed on.
+pub(crate) fn node_refused(finding: Finding) -> Verdict
+    ensures { λ r. ⌜ HandsOn (findingAnswer finding) (verdictAnswer r) ⌝ }
+{
+    match finding {
+        Finding::BadTargetValue(place) => Verdict::BadTargetValue(place),
+        Finding::NotBlocked(place) => Verdict::NotBlocked(place),
+        Finding::WrongLocation(place) => Verdict::WrongLocation(place),
+        Finding::NotInside(place) => Verdict::NotInside(place),
+        Finding::SumTooLarge(place) => Verdict::SumTooLarge(place),
+        Finding::None => Verdict::SumTooLarge(0), // no refusal: never asked for
+    }
+}
+
+// The last checks: the start node, at a place, has the start location, and its zone holds the start valuations.
+pub(crate) fn start_verdict(
+    start: usize,
+    initial: Zone,
+    node: NodeEntry,
+    zone: Zone,
+    place: usize,
+    certificate: Certificate,
+) -> Verdict
+    ensures { λ r. ⌜ r ≡ startVerdict start initial node zone place certificate ⌝ }
+{
+    if node.location != start {
+        return Verdict::WrongStart(place);
+    }
+    if initial.inside(zone) {
+        return Verdict::Accepted(certificate);
+    }
+    Verdict::StartNotInside(place)
+}
+
+// Judges a table against a model: the model's refusal first, then that of the table's words, of its nodes, and of its start node.
+pub fn judge(model: &[u32], table: &[u32]) -> Verdict
+    ensures answers { λ r. ⌜ Judged (now (model .entry)) (now (table .entry)) (verdictAnswer r) ⌝ }
+    ensures exactly { λ r. ⌜ Exactly (now (model .entry)) (now (table .entry)) (verdictAnswer r) ⌝ }
+    ensures bounds { λ r. ⌜ BoundsSchedulers (now (model .entry)) (verdictAnswer r) ⌝ }
+{
+    let model_read = models::index_model(model);
+    let model_answer = model_read.answer;
+    let ModelAnswer::Accepted(_) = model_answer else {
+        return model_refused(model_answer);
+    };
+    let index = model_read.index;
+    let table_read = tables::index_table(index, table);
+    let table_answer = table_read.answer;
+    let TableAnswer::Good = table_answer else {
+        return words_refused(table_answer);
+    };
+    let zones = model_read.zones;
+    let enabled = reaching::enabled_zones(index, zones);
+    let finding = walk::walk(table, model_read, enabled, table_read);
+    let Finding::None = finding else {
+        return node_refused(finding);
+    };
+    let s = table_read.start as usize;
+    let node = table_read.nodes[s];
+    let certificate = Certificate {
+        b: node.value,
+        whole: table_read.whole,
+        nodes: table_read.count,
+    };
+    start_verdict(
+        index.start as usize,
+        model_read.initial,
+        node,
+        table_read.zones[s],
+        table_read.place,
+        certificate,
+    )
+}

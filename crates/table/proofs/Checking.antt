@@ -1,0 +1,192 @@
+-- The pass decides the checks 11 to 14. Assumes nothing.
+use Prim.Native.Nat.{ℕ, suc}
+use mathlib.Core.Path.{_≡_, refl, ap, _∙_}
+use mathlib.Core.Logic.{inl, inr}
+use mathlib.Core.Bool.{Bool, true, false, not, cond, _&&_, _||_}
+use mathlib.Core.List.{List, [], _∷_, _++_, reverseAux}
+use native.Mathlib.Omega.{arith}
+use lib.Dec.{eqb, ltb}
+use lib.ListN.{getD, length, replicate}
+use Rattle.zone.specs.Words.{kind}
+use Rattle.zone.specs.Checks.{Answer, Check, test, First}
+use Rattle.zone.specs.Squares.{universe}
+use Rattle.zone.specs.declared.zones.Zone.{Zone as Square}
+use Rattle.zone.proofs.Bools.{left-true}
+use Rattle.model.specs.TableKinds.{tableHead, node, successor, startNode, isTable, tableKindOf, tableNumber}
+use Rattle.model.specs.Before.{openerFrom, countOf}
+use Rattle.model.specs.Grammar.{tableFollows?}
+use Rattle.model.specs.Model.{Model}
+use Rattle.model.specs.Indexed.{Indexed}
+use Rattle.model.proofs.Counts.{count-reversed}
+use Rattle.model.specs.declared.index.Index.{Index}
+use Rattle.model.specs.declared.read.ModelRead.{ModelRead}
+use Rattle.table.specs.Fields.{wholeOf, numberOf, fields?}
+use Rattle.table.specs.Reading.{due, rowsAllow?, limit?, wordChecks, wordsChecks, numberChecks, readChecks, tableAnswer}
+use Rattle.table.specs.Scan.{nothing, rowsAllowAt?, fieldsAt?, limitAt?, faultAt, lastFault, seenWith}
+use Rattle.table.specs.Index.{
+  noEntry,
+  nodesWith,
+  zonesWith,
+  scannedAt,
+  unlessFault,
+  scanFrom,
+  scanned,
+  numbersAnswer,
+  answerOf,
+}
+use Rattle.table.specs.declared.seen.Seen.{Seen}
+use Rattle.table.specs.declared.seen.Fault.{Fault}
+use Rattle.table.specs.declared.seen.Fault.the-variants as fault
+use Rattle.table.specs.declared.nodes.NodeEntry.{NodeEntry}
+use Rattle.table.specs.declared.scan.Scanned.{Scanned}
+use Rattle.table.specs.declared.read.TableAnswer.{TableAnswer}
+use Rattle.table.specs.declared.read.TableAnswer.the-variants as answer
+use Rattle.table.proofs.KindLaws.{kind-is}
+use Rattle.table.proofs.Run.{Run, seenEnd, goes, run-of, end-of}
+use Rattle.table.proofs.Passing.{firstFault}
+use Rattle.table.proofs.Rows.{same-rows}
+use Rattle.table.proofs.Agreeing.{Agrees, Begins, here, there, Heads, agrees-nothing, begins, agrees-with}
+
+-- ---- a word's checks and its fault
+
+same-fault : (a b c a′ b′ c′ : Bool) → a ≡ a′ → c ≡ c′ → (a ≡ true → b ≡ b′) → firstFault a b c ≡ firstFault a′ b′ c′
+same-fault true b c a′ b′ c′ e f h = rw (← e, f, h refl)
+same-fault false b c a′ b′ c′ e f h = rw (← e)
+
+-- the three tests on a word behind the words before
+module _ (M : Model) (whole : ℕ) (before : List ℕ) (w : ℕ) where
+  abbrev kind? : Bool
+  kind? = tableFollows? (openerFrom 16 before) (kind w) && rowsAllow? (tableKindOf w) (due M before)
+
+  abbrev field? : Bool
+  field? = fields? (tableKindOf w) (M .clocks) (length (M .locations)) whole w
+
+  abbrev under? : Bool
+  under? = limit? (tableKindOf w) (countOf (tableNumber node) before)
+
+module _ (M : Model) (r : ModelRead) (i : Indexed M r) (whole : ℕ) (before : List ℕ) (s : Seen) (w : ℕ) where
+  abbrev x : Index
+  x = r .index
+
+  same-fields : Begins whole before s (kind w) → fieldsAt? s (x .clocks) (x .locations) w ≡ field? M whole before w
+  unfolding fieldsAt? fields?
+  same-fields (here e o n) = rw (kind-is tableHead w n)
+  same-fields (there h n) = rw (h .whole, i .clocks, i .locations)
+
+  fault-is : Agrees M r whole before s →
+      faultAt s (x .clocks) (x .locations) w ≡ firstFault (kind? M whole before w) (field? M whole before w) (under? M whole before w)
+  unfolding faultAt rowsAllowAt? limitAt?
+  fault-is a =
+      same-fault (tableFollows? (s .opener) (kind w) && rowsAllowAt? s w) (fieldsAt? s (x .clocks) (x .locations) w) (limitAt? s w)
+      (kind? M whole before w) (field? M whole before w) (under? M whole before w)
+      (rw (same-rows r (a .rows .actions) (due M before) s (a .rows .left) (tableKindOf w), a .tallies .opener))
+      (rw (a .tallies .nodes))
+      λ f. same-fields (begins M r whole before s a (kind w) (left-true _ _ f))
+
+-- ---- the pass
+
+-- the answer of a pass, if `whole` is that on the whole file
+abbrev answered : TableAnswer → Scanned → Answer (Unit {0})
+answered whole r = tableAnswer (answerOf (r .fault) (r .place) whole)
+
+-- an acceptance has no value to judge
+abbrev any : Unit {0} → Type 0
+any u = Unit {0}
+
+module _ (more : List Check) (whole : TableAnswer) where
+  -- at a word
+  step-first :
+      (a b c : Bool) (f : Fault) → f ≡ firstFault a b c → (s : Seen) (ns : List NodeEntry) (zs : List Square) (p : ℕ) (go : Scanned) →
+      (f ≡ fault.None → First more any (answered whole go)) →
+      First (test 11 p a ∷ test 12 p b ∷ test 13 p c ∷ more) any (answered whole (unlessFault f (scannedAt f p s ns zs) go))
+  unfolding unlessFault answerOf tableAnswer
+  step-first true true true f e s ns zs p go h = rw e (inl (tt, inl (tt, inl (tt, h e))))
+  step-first true true false f e s ns zs p go h = rw e (inl (tt, inl (tt, inr (λ t. t, refl))))
+  step-first true false c f e s ns zs p go h = rw e (inl (tt, inr (λ t. t, refl)))
+  step-first false b c f e s ns zs p go h = rw e (inr (λ t. t, refl))
+
+  -- at the end
+  last-first :
+      (c : Bool) (f : Fault) → f ≡ cond c fault.None fault.Kind → (p : ℕ) → (f ≡ fault.None → First more any (tableAnswer whole)) →
+      First (test 11 p c ∷ more) any (tableAnswer (answerOf f p whole))
+  unfolding answerOf tableAnswer
+  last-first true f e p h = rw e (inl (tt, h e))
+  last-first false f e p h = rw e (inr (λ t. t, refl))
+
+-- the checks 11 to 13 of a table
+abbrev pub checksOf : Model → List ℕ → List Check
+checksOf M words = wordsChecks M (wholeOf (getD words 0 0)) [] words
+
+module _ (M : Model) (r : ModelRead) (i : Indexed M r) where
+  words-from :
+      (whole : ℕ) (before words : List ℕ) (s : Seen) (ns : List NodeEntry) (zs : List Square) → Agrees M r whole before s →
+      Heads whole before (getD words 0 0) → (more : List Check) (end : TableAnswer) →
+      (scanFrom (r .index) s ns zs (length before) words .fault ≡ fault.None → First more any (tableAnswer end)) →
+      First (wordsChecks M whole before words ++ more) any (answered end (scanFrom (r .index) s ns zs (length before) words))
+  unfolding scanFrom wordsChecks wordChecks lastFault
+  words-from whole before [] s ns zs a first more end h =
+      last-first more end (eqb (openerFrom 16 before) 12) (lastFault s) (rw (a .tallies .opener)) (length before) h
+  words-from whole before (w ∷ ws) s ns zs a first more end h =
+      let p : ℕ = length before in
+      let x : Index = r .index in
+      let f : Fault = faultAt s (x .clocks) (x .locations) w in
+      let go : Scanned = scanFrom x (seenWith x s w p) (nodesWith s w p ns) (zonesWith s w zs) (suc p) ws in
+      step-first (wordsChecks M whole (w ∷ before) ws ++ more) end (kind? M whole before w) (field? M whole before w) (under? M whole before w)
+      f (fault-is M r i whole before s w a) s ns zs p go λ n.
+      words-from whole (w ∷ before) ws (seenWith x s w p) (nodesWith s w p ns) (zonesWith s w zs) (agrees-with M r i whole before s w p a n first)
+      (λ e. absurd (omega (arith, ap length e))) more end
+      λ g. h (ap (λ (t : Scanned). t .fault) (goes f (scannedAt f p s ns zs) go n) ∙ g)
+
+  pub words-first :
+      (words : List ℕ) (more : List Check) (end : TableAnswer) →
+      (scanned (r .index) words .fault ≡ fault.None → First more any (tableAnswer end)) →
+      First (checksOf M words ++ more) any (tableAnswer (answerOf (scanned (r .index) words .fault) (scanned (r .index) words .place) end))
+  unfolding scanned
+  words-first words =
+      words-from (wholeOf (getD words 0 0)) [] words nothing (replicate 64 noEntry) (replicate 64 universe) (agrees-nothing M r _) (λ e. refl)
+
+  -- ---- the nodes that the pass counts
+
+  pub agrees-end :
+      (whole : ℕ) (before words : List ℕ) (s : Seen) (p : ℕ) → Agrees M r whole before s → Heads whole before (getD words 0 0) →
+      Run (r .index) s p words → Agrees M r whole (reverseAux words before) (seenEnd (r .index) s p words)
+  unfolding seenEnd
+  agrees-end whole before [] s p a first g = a
+  agrees-end whole before (w ∷ ws) s p a first g =
+      agrees-end whole (w ∷ before) ws (seenWith (r .index) s w p) (suc p) (agrees-with M r i whole before s w p a (g .0) first)
+      (λ e. absurd (omega (arith, ap length e))) (g .1)
+
+module _ (M : Model) (r : ModelRead) (i : Indexed M r) (words : List ℕ) where
+  pub nodes-end : Run (r .index) nothing 0 words → seenEnd (r .index) nothing 0 words .nodes ≡ countOf (tableNumber node) words
+  nodes-end g =
+      let a = agrees-end M r i (wholeOf (getD words 0 0)) [] words nothing 0 (agrees-nothing M r _) (λ e. refl) g in
+      a .tallies .nodes ∙ count-reversed (tableNumber node) words
+
+  pub nodes-scanned : scanned (r .index) words .fault ≡ fault.None → scanned (r .index) words .seen .nodes ≡ countOf (tableNumber node) words
+  unfolding scanned
+  nodes-scanned n =
+      let g = run-of (r .index) nothing (replicate 64 noEntry) (replicate 64 universe) 0 words n in
+      ap (λ (t : Scanned). t .seen .nodes) (end-of (r .index) nothing (replicate 64 noEntry) (replicate 64 universe) 0 words g) ∙ nodes-end g
+
+-- ---- on the whole file
+
+number-first : (c : Bool) (p : ℕ) (cs : List Check) (end : TableAnswer) → First cs any (tableAnswer end) →
+    First (test 14 p c ∷ cs) any (tableAnswer (cond c end (answer.NoNode p)))
+unfolding tableAnswer
+number-first true p cs end h = inl (tt, h)
+number-first false p cs end h = inr (λ t. t, refl)
+
+pub numbers-first : (nodes p : ℕ) (ws : List ℕ) → First (numberChecks nodes p ws) any (tableAnswer (numbersAnswer nodes p ws))
+unfolding numberChecks numbersAnswer tableAnswer
+numbers-first nodes p [] = tt
+numbers-first nodes p (w ∷ ws) =
+    number-first (not (isTable successor w || isTable startNode w) || ltb (numberOf w) nodes) p (numberChecks nodes (suc p) ws)
+    (numbersAnswer nodes (suc p) ws) (numbers-first nodes (suc p) ws)
+
+pub read-says : (M : Model) (r : ModelRead) → Indexed M r → (words : List ℕ) →
+    let s : Scanned = scanned (r .index) words in
+    First (readChecks M words) (λ (_ : Unit {0}). Unit {0}) (tableAnswer (answerOf (s .fault) (s .place) (numbersAnswer (s .seen .nodes) 0 words)))
+unfolding readChecks
+read-says M r i words =
+    words-first M r i words (numberChecks (countOf (tableNumber node) words) 0 words) (numbersAnswer (scanned (r .index) words .seen .nodes) 0 words)
+    λ n. rw (nodes-scanned M r i words n) (numbers-first (countOf (tableNumber node) words) 0 words)

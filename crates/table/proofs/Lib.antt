@@ -1,0 +1,16 @@
+pub mod KindLaws
+pub mod WordChecks
+pub mod Passing
+pub mod Limits
+pub mod ScanLaws
+pub mod Run
+pub mod Rows
+pub mod Agreeing
+pub mod Checking
+pub mod Walk
+pub mod Slots
+pub mod Indexing
+pub mod Reading
+pub mod IndexFits
+pub mod ReadLaws
+pub mod Shape

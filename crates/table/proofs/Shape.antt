@@ -1,0 +1,338 @@
+-- What holds of the table of words that pass the checks 11 to 14: a row for each action, a successor for each edge, numbers of nodes that are
+-- there, values of at most V, good zones. Assumes nothing.
+use Prim.Native.Nat.{ℕ, zero, suc, _+_, _-_, _≤_, _<_, _^_}
+use mathlib.Core.Path.{_≡_, refl, sym, ap, subst, _∙_}
+use mathlib.Core.Logic.{_⊎_, inl, inr}
+use mathlib.Core.Bool.{Bool, true, false, not, _&&_, _||_}
+use mathlib.Core.List.{List, [], _∷_}
+use native.Mathlib.Omega.{arith}
+use borrow.Author.Tests.{eqb-true}
+use lib.Dec.{T, eqb, ltb, leb→le, ltb→lt, eqb→eq}
+use lib.ListN.{getD, length, drop, length-drop}
+use lib.Seq.{drop-drop}
+use Rattle.zone.specs.Words.{bits, kind, boundOf, goodBound?, zoneOf}
+use Rattle.zone.specs.Checks.{Check}
+use Rattle.zone.proofs.Bools.{by-test, both, and, is-true}
+use Rattle.zone.proofs.CheckLaws.{AllHold, all-left, all-right}
+use Rattle.model.specs.TableKinds.{TableKind, noKind, tableHead, node, nodeBound, value, blocked, successor, startNode, tableNumber}
+use Rattle.model.specs.TableKinds.{tableNumber, isTable, tableKindOf}
+use Rattle.model.specs.Before.{openerFrom, countOf, indexOf}
+use Rattle.model.specs.Grammar.{tableFollows, tableFollows?}
+use Rattle.model.specs.Model.{Action, Model}
+use Rattle.model.specs.States.{locationAt}
+use Rattle.model.proofs.ZoneLaws.{All, empty, more, GoodBound, GoodZone, good-word}
+use Rattle.model.proofs.WellFormed.{WellFormed}
+use Rattle.table.specs.Fields.{wholeOf, locationOf, valueOf, numberOf, fields?}
+use Rattle.table.specs.Table.{Node, Table, rowsOf, leadingBounds, rowActions, nodeOf, nodesOf, tableOf}
+use Rattle.table.specs.Reading.{lastLocation, Due, edgeCounts, allDue, dueAfterBlocked, dueAfterSuccessor, dueWith, due}
+use Rattle.table.specs.Reading.{none?, rowsAllow?, wordChecks, wordsChecks, numberChecks, readChecks}
+use Rattle.table.specs.Scan.{rowSize}
+use Rattle.table.proofs.ReadLaws.{between, no-node, Lacking, LackingDue, lacking-with}
+use Rattle.table.proofs.ReadLaws.{next, openerWith, locationWith, opener-with, location-with, due-with, named, counted}
+
+-- one row at the front of the words, for an action with so many edges: one A, or one B per edge, each naming one of so many nodes
+unfoldable pub RowStands : ℕ → Bool → ℕ → List ℕ → Type 0
+RowStands nodes true edges ws = 1 ≤ length ws
+RowStands nodes false edges ws = (1 ≤ edges) × (edges ≤ length ws) × ((i : ℕ) → i < edges → numberOf (getD ws i 0) < nodes)
+
+-- the words from here on are rows for these actions
+unfoldable pub RowsStand : ℕ → List Action → List ℕ → Type 0
+RowsStand nodes [] ws = Unit {0}
+RowsStand nodes (A ∷ As) ws =
+    RowStands nodes (isTable blocked (getD ws 0 0)) (length (A .edges)) ws ×
+    RowsStand nodes As (drop (rowSize (isTable blocked (getD ws 0 0)) (length (A .edges))) ws)
+
+pub record NodeShaped (M : Model) (W : Table) (words : List ℕ) (N : Node) : Type 0 where
+  pub exists : N .location < length (M .locations)
+  pub value : N .value ≤ W .whole
+  pub place : N .place < length words
+  pub zone : GoodZone (N .zone)
+  pub rows : N .rows ≡ rowsOf (rowActions (locationAt M (N .location))) (suc (N .place)) (drop (suc (N .place)) words)
+  pub stands : RowsStand (length (W .nodes)) (rowActions (locationAt M (N .location))) (drop (suc (N .place)) words)
+
+pub record Shaped (M : Model) (words : List ℕ) (W : Table) : Type 0 where
+  pub whole : 1 ≤ W .whole
+  pub small : W .whole < 2 ^ 28
+  pub nodes : All (NodeShaped M W words) (W .nodes)
+  pub start : W .start < length (W .nodes)
+
+-- ---- the rows that are due
+
+module _ (nodes : ℕ) where
+  -- so many words that name nodes
+  abbrev Onward : ℕ → List ℕ → Type 0
+  Onward n ws = (n ≤ length ws) × ((i : ℕ) → i < n → numberOf (getD ws i 0) < nodes)
+
+  onward-more : (n w : ℕ) (ws : List ℕ) → numberOf w < nodes → Onward n ws → Onward (suc n) (w ∷ ws)
+  onward-more n w ws l h = (omega (arith, h .0), at)
+    where
+      at : (i : ℕ) → i < suc n → numberOf (getD (w ∷ ws) i 0) < nodes
+      at zero j = l
+      at (suc i) j = h .1 i (omega arith)
+
+  -- the words from here on are the rows that are due
+  abbrev DueStand : ℕ → List ℕ → List ℕ → Type 0
+  DueStand begun [] ws = Unit {0}
+  DueStand zero (n ∷ ns) ws =
+      RowStands nodes (isTable blocked (getD ws 0 0)) n ws × DueStand 0 ns (drop (rowSize (isTable blocked (getD ws 0 0)) n) ws)
+  DueStand (suc begun) (n ∷ ns) ws = Onward (n - suc begun) ws × DueStand 0 ns (drop (n - suc begun) ws)
+
+  rows-due : (As : List Action) (ws : List ℕ) → DueStand 0 (edgeCounts As) ws → RowsStand nodes As ws
+  unfolding RowsStand edgeCounts
+  rows-due [] ws h = tt
+  rows-due (A ∷ As) ws h = (h .0, rows-due As _ (h .1))
+
+  module _ (w : ℕ) (ws : List ℕ) where
+    due-blocked :
+        (begun : ℕ) (ns : List ℕ) → kind w ≡ 10 → T (not (none? ns) && eqb begun 0) →
+        DueStand (dueAfterBlocked ns .begun) (dueAfterBlocked ns .rows) ws → DueStand begun ns (w ∷ ws)
+    unfolding dueAfterBlocked RowStands rowSize
+    due-blocked begun [] e t h = tt
+    due-blocked zero (n ∷ ns) e t h = rw e (omega arith, h)
+    due-blocked (suc begun) (n ∷ ns) e t h = let z : suc begun ≡ 0 = eqb→eq (suc begun) 0 t in absurd (omega arith)
+
+    -- behind a B, what the row lacks stands
+    left : (begun n : ℕ) (ns : List ℕ) →
+        DueStand (dueAfterSuccessor begun (n ∷ ns) .begun) (dueAfterSuccessor begun (n ∷ ns) .rows) ws →
+        Onward (n - suc begun) ws × DueStand 0 ns (drop (n - suc begun) ws)
+    unfolding dueAfterSuccessor
+    left begun n ns =
+        by-test (λ (d : Due). DueStand (d .begun) (d .rows) ws → Onward (n - suc begun) ws × DueStand 0 ns (drop (n - suc begun) ws))
+        (eqb (suc begun) n) _ _ (λ e h. last (eqb-true (suc begun) n e) h) (λ e h. h)
+      where
+        last : suc begun ≡ n → DueStand 0 ns ws → Onward (n - suc begun) ws × DueStand 0 ns (drop (n - suc begun) ws)
+        last e h =
+            let z : n - suc begun ≡ 0 = omega arith in
+            subst (λ (m : ℕ). Onward m ws × DueStand 0 ns (drop m ws)) (sym z) ((omega arith, λ i l. absurd (omega arith)), h)
+
+    due-successor :
+        (begun : ℕ) (ns : List ℕ) → kind w ≡ 11 → T (not (none? ns)) → numberOf w < nodes → Lacking begun ns →
+        DueStand (dueAfterSuccessor begun ns .begun) (dueAfterSuccessor begun ns .rows) ws → DueStand begun ns (w ∷ ws)
+    unfolding RowStands rowSize
+    due-successor begun [] e t l g h = tt
+    due-successor zero (n ∷ ns) e t l g h =
+        let r = left zero n ns h in
+        let z : suc (n - 1) ≡ n = omega (arith, g .0) in
+        let both : Onward n (w ∷ ws) × DueStand 0 ns (drop n (w ∷ ws)) =
+        subst (λ (m : ℕ). Onward m (w ∷ ws) × DueStand 0 ns (drop m (w ∷ ws))) z (onward-more (n - 1) w ws l (r .0), r .1) in
+        rw e ((g .0, both .0 .0, both .0 .1), both .1)
+    due-successor (suc begun) (n ∷ ns) e t l g h =
+        let r = left (suc begun) n ns h in
+        let z : suc (n - suc (suc begun)) ≡ n - suc begun = omega (arith, g .0) in
+        subst (λ (m : ℕ). Onward m (w ∷ ws) × DueStand 0 ns (drop m (w ∷ ws))) z (onward-more (n - suc (suc begun)) w ws l (r .0), r .1)
+
+-- ---- the words, from the last back to the first
+
+module _ (M : Model) (W : Table) (words : List ℕ) where
+  -- a word of a kind that passes the checks, behind an opener with these rows due
+  record Passes (k : TableKind) (o : ℕ) (d : Due) (w : ℕ) : Type 0 where
+    named : kind w ≡ tableNumber k
+    follows : tableFollows? o (tableNumber k) ≡ true
+    rows : T (rowsAllow? k d)
+    fields : T (fields? k (M .clocks) (length (M .locations)) (W .whole) w)
+    number : T (not (isTable successor w || isTable startNode w) || ltb (numberOf w) (length (W .nodes)))
+
+  -- the words behind a node word: good bounds, a value, and the rows
+  record NodeStands (l : ℕ) (ws : List ℕ) : Type 0 where
+    bounds : GoodZone (zoneOf (leadingBounds ws))
+    there : length (leadingBounds ws) < length ws
+    value : valueOf (getD (drop (length (leadingBounds ws)) ws) 0 0) ≤ W .whole
+    rows : RowsStand (length (W .nodes)) (rowActions (locationAt M l)) (drop 1 (drop (length (leadingBounds ws)) ws))
+
+  with-bound : (l w : ℕ) (ws : List ℕ) → kind w ≡ 5 → GoodBound (boundOf w) → NodeStands l ws → NodeStands l (w ∷ ws)
+  unfolding leadingBounds zoneOf
+  with-bound l w ws e g r =
+      let there : suc (length (leadingBounds ws)) < suc (length ws) = omega (arith, r .there) in
+      record { bounds = rw e (more g (r .bounds)); there = rw e there; value = rw e (r .value); rows = rw e (r .rows) }
+
+  with-value :
+      (l w : ℕ) (ws : List ℕ) → kind w ≡ 9 → valueOf w ≤ W .whole → RowsStand (length (W .nodes)) (rowActions (locationAt M l)) ws →
+      NodeStands l (w ∷ ws)
+  unfolding leadingBounds zoneOf
+  with-value l w ws e h r =
+      let there : 0 < suc (length ws) = omega arith in
+      record { bounds = rw e empty; there = rw e there; value = rw e h; rows = rw e r }
+
+  node-shaped :
+      (p w : ℕ) (ws : List ℕ) → drop (suc p) words ≡ ws → locationOf w < length (M .locations) → NodeStands (locationOf w) ws →
+      NodeShaped M W words (nodeOf M p w ws)
+  unfolding nodeOf
+  node-shaped p w ws e h r = record {
+    exists = h;
+    value = r .value;
+    place = omega (arith, r .there, ap length e, length-drop (suc p) words);
+    zone = r .bounds;
+    rows = ap (rowsOf (rowActions (locationAt M (locationOf w))) (suc (suc p + n))) rest;
+    stands = subst (RowsStand (length (W .nodes)) (rowActions (locationAt M (locationOf w)))) rest (r .rows);
+  }
+    where
+      n : ℕ
+      n = length (leadingBounds ws)
+
+      rest : drop 1 (drop n ws) ≡ drop (suc (suc p + n)) words
+      rest =
+          let behind : drop 1 (drop n ws) ≡ drop (suc p + n + 1) words =
+          ap (λ (v : List ℕ). drop 1 (drop n v)) (sym e) ∙ ap (drop 1) (drop-drop n (suc p) words) ∙ drop-drop 1 (suc p + n) words in
+          let next : suc p + n + 1 ≡ suc (suc p + n) = omega arith in
+          rw (← next) behind
+
+  -- behind words whose opener is o, whose last node has the location l, and where the rows d are due
+  record Stands (o l : ℕ) (d : Due) (p : ℕ) (ws : List ℕ) : Type 0 where
+    head : o ≡ 16 → 1 ≤ wholeOf (getD ws 0 0)
+    behind : o ≡ 8 → NodeStands l ws
+    rows : 9 ≤ o → o ≤ 11 → DueStand (length (W .nodes)) (d .begun) (d .rows) ws
+    nodes : All (NodeShaped M W words) (nodesOf M p ws)
+    start : (o ≡ 12 → ⊥) → numberOf (getD ws (indexOf (tableNumber startNode) ws) 0) < length (W .nodes)
+
+  module _ (formed : WellFormed M) (o l : ℕ) (d : Due) (w p : ℕ) (ws : List ℕ) where
+    good-bound : Passes nodeBound o d w → GoodBound (boundOf w)
+    unfolding goodBound? fields?
+    good-bound g =
+        good-word (M .clocks) w (formed .clocks) (is-true (goodBound? (M .clocks) w) (and (eqb (kind w) 5) _ (rw (g .named) tt) (g .fields)))
+
+    location-exists : Passes node o d w → locationOf w < length (M .locations)
+    unfolding fields?
+    location-exists g = ltb→lt (locationOf w) (length (M .locations)) (both (eqb (bits 23 0 w) 0) _ (g .fields) .1)
+
+    number-there : (k : TableKind) → (tableNumber k ≡ 11 ⊎ tableNumber k ≡ 12) → Passes k o d w → numberOf w < length (W .nodes)
+    number-there k (inl i) g = ltb→lt (numberOf w) (length (W .nodes)) (rw (g .named, i) at (g .number))
+    number-there k (inr i) g = ltb→lt (numberOf w) (length (W .nodes)) (rw (g .named, i) at (g .number))
+
+    none-due : (ns : List ℕ) → T (none? ns) → DueStand (length (W .nodes)) (d .begun) ns (w ∷ ws)
+    none-due [] t = tt
+    none-due (n ∷ ns) t = absurd t
+
+    stands-with :
+        (k : TableKind) → Passes k o d w → LackingDue d → drop (suc p) words ≡ ws →
+        Stands (openerWith k o) (locationWith k w l) (dueWith k M l d) (suc p) ws → Stands o l d p (w ∷ ws)
+    unfolding tableFollows fields? rowsAllow? dueWith allDue nodesOf indexOf
+    stands-with noKind g n e r = absurd (g .fields)
+    stands-with tableHead g n e r =
+        let (low, high) = between 7 16 16 tt o (g .follows) in
+        record {
+          head = λ i. leb→le 1 (wholeOf w) (g .fields);
+          behind = λ i. absurd (omega arith);
+          rows = λ i j. absurd (omega arith);
+          nodes = rw (g .named) (r .nodes);
+          start = λ i. rw (g .named) (r .start (λ j. omega arith));
+        }
+    stands-with node g n e r =
+        let (low, high) = between 8 7 11 tt o (g .follows) in
+        record {
+          head = λ i. absurd (omega arith);
+          behind = λ i. absurd (no-node o (g .follows) i);
+          rows = λ i j. none-due (d .rows) (g .rows);
+          nodes = rw (g .named) (more (node-shaped p w ws e (location-exists g) (r .behind refl)) (r .nodes));
+          start = λ i. rw (g .named) (r .start (λ j. omega arith));
+        }
+    stands-with nodeBound g n e r =
+        let (low, high) = between 5 8 8 tt o (g .follows) in
+        record {
+          head = λ i. absurd (omega arith);
+          behind = λ i. with-bound l w ws (g .named) (good-bound g) (r .behind i);
+          rows = λ i j. absurd (omega arith);
+          nodes = rw (g .named) (r .nodes);
+          start = λ i. rw (g .named) (r .start i);
+        }
+    stands-with value g n e r =
+        let (low, high) = between 9 8 8 tt o (g .follows) in
+        record {
+          head = λ i. absurd (omega arith);
+          behind = λ i.
+              with-value l w ws (g .named) (leb→le (valueOf w) (W .whole) (g .fields))
+              (rows-due (length (W .nodes)) (rowActions (locationAt M l)) ws (r .rows (omega arith) (omega arith)));
+          rows = λ i j. absurd (omega arith);
+          nodes = rw (g .named) (r .nodes);
+          start = λ i. rw (g .named) (r .start (λ j. omega arith));
+        }
+    stands-with blocked g n e r =
+        let (low, high) = between 10 9 11 tt o (g .follows) in
+        record {
+          head = λ i. absurd (omega arith);
+          behind = λ i. absurd (omega arith);
+          rows = λ i j. due-blocked (length (W .nodes)) w ws (d .begun) (d .rows) (g .named) (g .rows) (r .rows (omega arith) (omega arith));
+          nodes = rw (g .named) (r .nodes);
+          start = λ i. rw (g .named) (r .start (λ j. omega arith));
+        }
+    stands-with successor g n e r =
+        let (low, high) = between 11 9 11 tt o (g .follows) in
+        record {
+          head = λ i. absurd (omega arith);
+          behind = λ i. absurd (omega arith);
+          rows = λ i j.
+              due-successor (length (W .nodes)) w ws (d .begun) (d .rows) (g .named) (g .rows) (number-there successor (inl refl) g) n
+              (r .rows (omega arith) (omega arith));
+          nodes = rw (g .named) (r .nodes);
+          start = λ i. rw (g .named) (r .start (λ j. omega arith));
+        }
+    stands-with startNode g n e r =
+        let (low, high) = between 12 9 11 tt o (g .follows) in
+        record {
+          head = λ i. absurd (omega arith);
+          behind = λ i. absurd (omega arith);
+          rows = λ i j. none-due (d .rows) (g .rows);
+          nodes = rw (g .named) (r .nodes);
+          start = λ i. rw (g .named) (number-there startNode (inr refl) g);
+        }
+
+  -- ---- what the checks say
+
+  stands-from :
+      WellFormed M → (before : List ℕ) (p : ℕ) (ws : List ℕ) → AllHold (wordsChecks M (W .whole) before ws) →
+      AllHold (numberChecks (length (W .nodes)) p ws) → LackingDue (due M before) → drop p words ≡ ws →
+      Stands (openerFrom 16 before) (lastLocation before) (due M before) p ws
+  unfolding wordsChecks wordChecks numberChecks nodesOf
+  stands-from formed before p [] c n k e =
+      let last : openerFrom 16 before ≡ 12 = eqb→eq (openerFrom 16 before) 12 (c .0) in
+      record {
+        head = λ i. absurd (omega arith);
+        behind = λ i. absurd (omega arith);
+        rows = λ i j. absurd (omega arith);
+        nodes = empty;
+        start = λ i. absurd (i last);
+      }
+  stands-from formed before p (w ∷ ws) c n k e =
+      let o : ℕ = openerFrom 16 before in
+      let l : ℕ = lastLocation before in
+      let d : Due = due M before in
+      let q : TableKind = tableKindOf w in
+      let m : kind w ≡ tableNumber q = named w (M .clocks) (length (M .locations)) (W .whole) (c .1 .0) in
+      let (f, a) = both (tableFollows? o (kind w)) (rowsAllow? q d) (c .0) in
+      let g : Passes q o d w = record {
+        named = m;
+        follows = subst (λ (i : ℕ). tableFollows? o i ≡ true) m (is-true _ f);
+        rows = a;
+        fields = c .1 .0;
+        number = n .0;
+      } in
+      let due-next : due M (w ∷ before) ≡ dueWith q M l d = due-with M before w q m in
+      let k-next : LackingDue (due M (w ∷ before)) = rw due-next (lacking-with q M l d formed k) in
+      let at : drop (suc p) words ≡ ws = next p words w ws e in
+      let r : Stands (openerFrom 16 (w ∷ before)) (lastLocation (w ∷ before)) (due M (w ∷ before)) (suc p) ws =
+      stands-from formed (w ∷ before) (suc p) ws (c .1 .1 .1) (n .1) k-next at in
+      stands-with formed o l d w p ws q g k at (rw (opener-with before w q m, location-with before w q m, due-next) at r)
+
+-- ---- the table
+
+pub shaped : (M : Model) (words : List ℕ) → WellFormed M → AllHold (readChecks M words) → Shaped M words (tableOf M words)
+unfolding tableOf readChecks openerFrom due
+shaped M words formed h = record {
+  whole = stands .head refl;
+  small = omega arith;
+  nodes = stands .nodes;
+  start = stands .start (λ e. omega arith);
+}
+  where
+    W : Table
+    W = tableOf M words
+
+    first : List Check
+    first = wordsChecks M (W .whole) [] words
+
+    numbers : AllHold (numberChecks (length (W .nodes)) 0 words)
+    numbers =
+        subst (λ (n : ℕ). AllHold (numberChecks n 0 words)) (sym (counted M 0 words))
+        (all-right first (numberChecks (countOf (tableNumber node) words) 0 words) h)
+
+    stands : Stands M W words 16 (lastLocation []) (due M []) 0 words
+    stands = stands-from M W words formed [] 0 words (all-left first _ h) numbers tt refl

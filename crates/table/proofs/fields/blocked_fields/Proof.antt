@@ -1,0 +1,9 @@
+use Rattle.model.proofs.FieldLaws.{lowest}
+use Rattle.table.proofs.fields.blocked_fields.Statement.{statement}
+use Rattle.table.proofs.fields.blocked_fields.Tie as tie
+
+returns : tie.Need-returns
+returns c = rw (lowest (c .args .word) 268435456)
+
+pub blocked-fields-spec : {M : Type 1} → statement M
+blocked-fields-spec = tie.close (tie.spec returns)

@@ -1,0 +1,40 @@
+use borrow.Author.Needs.{needs}
+use Rattle.table.specs.Index.{answerOf}
+use Rattle.table.proofs.read.answer_of.Statement.{statement}
+use Rattle.table.proofs.read.answer_of.Tie as tie
+
+enum-told : tie.Need-enum-told
+enum-told c = search needs
+
+numbers-answer-requires : tie.Need-numbers-answer-requires
+numbers-answer-requires c κs = search needs
+
+enum-told-2 : tie.Need-enum-told-2
+enum-told-2 c = search needs
+
+enum-told-3 : tie.Need-enum-told-3
+enum-told-3 c = search needs
+
+enum-told-4 : tie.Need-enum-told-4
+enum-told-4 c = search needs
+
+returns : tie.Need-returns
+unfolding answerOf
+returns c = rw (c .before .enum-told .given .1) (c .numbers-answer .ensures)
+
+returns-2 : tie.Need-returns-2
+unfolding answerOf
+returns-2 c = rw (c .enum-told2 .given .1)
+
+returns-3 : tie.Need-returns-3
+unfolding answerOf
+returns-3 c = rw (c .enum-told3 .given .1)
+
+returns-4 : tie.Need-returns-4
+unfolding answerOf
+returns-4 c = rw (c .enum-told4 .given .1)
+
+pub answer-of-spec : {M : Type 1} → statement M
+answer-of-spec =
+    tie.close
+    (tie.spec enum-told numbers-answer-requires enum-told-2 enum-told-3 enum-told-4 returns returns-2 returns-3 returns-4)

@@ -1,0 +1,19 @@
+use borrow.Author.Needs.{needs}
+use Rattle.table.proofs.Reading.{returned}
+use Rattle.table.proofs.read.index_table.Statement.{statement}
+use Rattle.table.proofs.read.index_table.Tie as tie
+
+scan-requires : tie.Need-scan-requires
+scan-requires c κs = search needs
+
+answer-of-requires : tie.Need-answer-of-requires
+answer-of-requires c κs = search needs
+
+returns : tie.Need-returns
+returns c =
+    let scan = c .before .before .before .before in
+    returned _ _ (scan .scan .result) _ (scan .scan .ensures) (c .answer-of .ensures)
+
+pub index-table-spec : {M : Type 1} → statement M
+index-table-spec =
+    tie.close (tie.spec scan-requires answer-of-requires returns)

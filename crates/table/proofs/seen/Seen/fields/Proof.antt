@@ -1,0 +1,93 @@
+use Prim.Native.Nat.{ℕ}
+use mathlib.Core.Path.{_≡_, _∙_}
+use borrow.Author.Needs.{needs}
+use Rattle.zone.specs.Words.{kind}
+use Rattle.model.specs.TableKinds.{tableHead, node, nodeBound, value, blocked, successor, startNode}
+use Rattle.table.specs.Fields.{fields?}
+use Rattle.table.specs.Scan.{fieldsAt?}
+use Rattle.table.proofs.KindLaws.{no-kind}
+use Rattle.table.proofs.WordChecks.{fields-at}
+use Rattle.table.proofs.seen.Seen.fields.Statement.{statement}
+use Rattle.table.proofs.seen.Seen.fields.Tie as tie
+
+kind-of-requires : tie.Need-kind-of-requires
+kind-of-requires c κs = search needs
+
+bound-fields-requires : tie.Need-bound-fields-requires
+bound-fields-requires c κs = search needs
+
+head-fields-requires : tie.Need-head-fields-requires
+head-fields-requires c κs = search needs
+
+node-fields-requires : tie.Need-node-fields-requires
+node-fields-requires c κs = search needs
+
+value-fields-requires : tie.Need-value-fields-requires
+value-fields-requires c κs = search needs
+
+blocked-fields-requires : tie.Need-blocked-fields-requires
+blocked-fields-requires c κs = search needs
+
+number-fields-requires : tie.Need-number-fields-requires
+number-fields-requires c κs = search needs
+
+number-fields-requires-2 : tie.Need-number-fields-requires-2
+number-fields-requires-2 c κs = search needs
+
+returns : tie.Need-returns
+unfolding fields?
+returns c = c .bound-fields .ensures ∙ fields-at _ _ _ _ nodeBound cc
+
+returns-2 : tie.Need-returns-2
+unfolding fields?
+returns-2 c = c .head-fields .ensures ∙ fields-at _ _ _ _ tableHead cc
+
+returns-3 : tie.Need-returns-3
+unfolding fields?
+returns-3 c = c .node-fields .ensures ∙ fields-at _ _ _ _ node cc
+
+returns-4 : tie.Need-returns-4
+unfolding fields?
+returns-4 c = c .value-fields .ensures ∙ fields-at _ _ _ _ value cc
+
+returns-5 : tie.Need-returns-5
+unfolding fields?
+returns-5 c = c .blocked-fields .ensures ∙ fields-at _ _ _ _ blocked cc
+
+returns-6 : tie.Need-returns-6
+unfolding fields?
+returns-6 c = c .number-fields .ensures ∙ fields-at _ _ _ _ successor cc
+
+returns-7 : tie.Need-returns-7
+unfolding fields?
+returns-7 c = c .number-fields2 .ensures ∙ fields-at _ _ _ _ startNode cc
+
+returns-8 : tie.Need-returns-8
+unfolding fieldsAt? fields?
+returns-8 c =
+    let ne : (n : ℕ) → (c .before .kind-of .result ≡ n → ⊥) → kind (c .before .before .args .word) ≡ n → ⊥
+    = λ n h q. h (c .before .kind-of .ensures ∙ q) in
+    let r = c .match .rest in
+    rw (no-kind _ (ne 5 (r .0 .0 .0 .0 .0 .0 .1)) (ne 7 (r .0 .0 .0 .0 .0 .1)) (ne 8 (r .0 .0 .0 .0 .1)) (ne 9 (r .0 .0 .0 .1))
+    (ne 10 (r .0 .0 .1)) (ne 11 (r .0 .1)) (ne 12 (r .1)))
+
+pub fields-spec : {M : Type 1} → statement M
+fields-spec =
+    tie.close
+    (tie.spec
+    kind-of-requires
+    bound-fields-requires
+    head-fields-requires
+    node-fields-requires
+    value-fields-requires
+    blocked-fields-requires
+    number-fields-requires
+    number-fields-requires-2
+    returns
+    returns-2
+    returns-3
+    returns-4
+    returns-5
+    returns-6
+    returns-7
+    returns-8)

@@ -1,0 +1,33 @@
+use native.Mathlib.Omega.{arith}
+use borrow.Author.Needs.{needs}
+use Rattle.model.specs.TableKinds.{node, blocked, successor, startNode}
+use Rattle.table.specs.Scan.{rowsAllowKind?}
+use Rattle.table.proofs.WordChecks.{rows-at, rows-apart}
+use Rattle.table.proofs.seen.Seen.rows_allow.Statement.{statement}
+use Rattle.table.proofs.seen.Seen.rows_allow.Tie as tie
+
+kind-of-requires : tie.Need-kind-of-requires
+kind-of-requires c κs = search needs
+
+returns : tie.Need-returns
+unfolding rowsAllowKind?
+returns c = rows-at _ _ node cc
+
+returns-2 : tie.Need-returns-2
+unfolding rowsAllowKind?
+returns-2 c = rows-at _ _ blocked cc
+
+returns-3 : tie.Need-returns-3
+unfolding rowsAllowKind?
+returns-3 c = rows-at _ _ successor cc
+
+returns-4 : tie.Need-returns-4
+unfolding rowsAllowKind?
+returns-4 c = rows-at _ _ startNode cc
+
+returns-5 : tie.Need-returns-5
+returns-5 c = rows-apart _ _ (omega arith) (omega arith) (omega arith) (omega arith)
+
+pub rows-allow-spec : {M : Type 1} → statement M
+rows-allow-spec =
+    tie.close (tie.spec kind-of-requires returns returns-2 returns-3 returns-4 returns-5)
