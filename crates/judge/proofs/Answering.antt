@@ -35,7 +35,7 @@ use Rattle.table.proofs.IndexFits.{index-fits}
 use Rattle.table.proofs.Shape.{NodeShaped, Shaped, shaped}
 use Rattle.judge.specs.Acceptance.{startValuations, certified}
 use Rattle.judge.specs.Judging.{nodesChecks, certificateOf, Judged, Exactly, BoundsSchedulers, verdictAnswer}
-use Rattle.judge.specs.Reaching.{EdgesFit, enabledSquares}
+use Rattle.judge.specs.Reaching.{ActionsFit, enabledSquares}
 use Rattle.judge.specs.Walk.{walked, WalkInRange}
 use Rattle.judge.specs.Deciding.{findingAnswer, HandsOn, startVerdict}
 use Rattle.judge.specs.declared.walk.Finding.{Finding}
@@ -45,7 +45,7 @@ use Rattle.judge.specs.declared.verdict.Verdict.{Verdict}
 use Rattle.judge.proofs.Exact.{exactly, promised}
 use Rattle.judge.proofs.Starting.{start-not-empty, start-inside-yes, start-inside-no}
 use Rattle.judge.proofs.Starts.{start-first}
-use Rattle.judge.proofs.RowLaws.{node-at, shaped-at}
+use Rattle.judge.proofs.RowLaws.{node-at, shaped-at, actions-fit}
 use Rattle.judge.proofs.WalkLaws.{zone-there}
 use Rattle.judge.proofs.Walking.{walk-first}
 use Rattle.judge.proofs.WalkRanges.{walk-in-range}
@@ -109,8 +109,8 @@ module _ (words : List ℕ) (r : ModelRead) (m : ModelAccepted words r) where
   pub fits : IndexFits (r .index)
   fits = index-fits formed x
 
-  pub edges-fit : EdgesFit (r .index)
-  edges-fit = record { at = x .edgeLimits }
+  pub all-fit : ActionsFit (r .index)
+  all-fit = actions-fit M r x good formed
 
   module _ (list : List ℕ) (t : TableRead) (rows : ReadFor (r .index) list t) where
     abbrev W : Table

@@ -1,18 +1,21 @@
 -- What each action asks before its resets, worked out edge by edge. Assumes nothing.
 use Prim.Native.Nat.{ℕ, suc, _+_, _-_, _≤_, _<_}
-use mathlib.Core.Path.{_≡_, refl, ap, _∙_}
+use mathlib.Core.Path.{_≡_, refl, sym, ap, _∙_}
+use mathlib.Core.Bool.{cond}
 use mathlib.Core.List.{List}
 use native.Mathlib.Omega.{arith}
-use lib.ListN.{getD, length}
+use borrow.Author.Tests.{lt-ltb, le-ltb}
+use lib.Dec.{ltb}
+use lib.ListN.{getD, length, replicate, getD-replicate}
 use Rattle.zone.specs.Squares.{universe, met, beforeReset}
 use Rattle.zone.specs.declared.zones.Zone.{Zone as Square}
-use Rattle.zone.proofs.Loops.{listOf-at}
+use Rattle.zone.proofs.Loops.{listOf-length, listOf-at, Filled, kept, all-filled}
 use Rattle.model.specs.Fields.{maskOf, landsAt}
 use Rattle.model.specs.Index.{noEdge}
 use Rattle.model.specs.declared.index.EdgeWord.{EdgeWord}
 use Rattle.model.specs.declared.index.Index.{Index}
 use Rattle.model.proofs.ScanLaws.{noZone, one-default}
-use Rattle.judge.specs.Reaching.{withLanding, withLandings, enabledSquare, enabledSquares}
+use Rattle.judge.specs.Reaching.{withLanding, withLandings, enabledSquare, actionCount, enabledSquares}
 
 -- before the first edge there is the guard
 pub landings-begin : (x : Index) (zs : List Square) (a : ℕ) → length zs ≡ 49 → a < 32 →
@@ -41,7 +44,25 @@ module _ (zs : List Square) (ws : List EdgeWord) (end e : ℕ) (z : Square) {goa
   unfolding withLandings
   landings-end l = h ∙ ap (λ c. withLandings zs ws c e z) (let n : end - e ≡ 0 = omega arith in n)
 
--- each is the one of its action
-pub enabled-at : (x : Index) (zs : List Square) (a : ℕ) → a < 32 → getD (enabledSquares x zs) a universe ≡ enabledSquare x zs a
+-- each is the one of its action, and where there is none every valuation
+module _ (x : Index) (zs : List Square) (a : ℕ) (h : a < 32) where
+  either : getD (enabledSquares x zs) a universe ≡ cond (ltb a (actionCount x)) (enabledSquare x zs a) universe
+  unfolding enabledSquares
+  either = listOf-at universe (λ b. cond (ltb b (actionCount x)) (enabledSquare x zs b) universe) 32 a h
+
+  pub enabled-at : a < actionCount x → getD (enabledSquares x zs) a universe ≡ enabledSquare x zs a
+  enabled-at l = either ∙ rw (lt-ltb _ _ l)
+
+  enabled-past : actionCount x ≤ a → getD (enabledSquares x zs) a universe ≡ universe
+  enabled-past l = either ∙ rw (le-ltb _ _ l)
+
+-- past the last action an array that began as every valuation is done
+pub enabled-end :
+    (x : Index) (zs : List Square) {u : Square} {a : ℕ} {es : List Square} → u ≡ universe →
+    Filled universe 32 (enabledSquares x zs) (replicate 32 u) a es → a ≤ 32 → actionCount x ≤ a → es ≡ enabledSquares x zs
 unfolding enabledSquares
-enabled-at x zs a h = listOf-at universe (enabledSquare x zs) 32 a h
+enabled-end x zs {u} e t h l =
+    all-filled
+    (kept t 32 h (λ k g m. getD-replicate 32 k u universe m ∙ e ∙ sym (enabled-past x zs k m (omega arith))))
+    (listOf-length _ 32 0)
+    (omega arith)

@@ -17,3 +17,4 @@ pub mod Answering
 pub mod Computing
 pub mod Cases
 pub mod OneAnswer
+pub mod Numbering

@@ -19,6 +19,7 @@ use Rattle.table.specs.Table.{Table, noNode, nodeAt}
 use Rattle.table.specs.Indexed.{NodeIs, TableIndexed}
 use Rattle.table.specs.declared.read.TableRead.{TableRead}
 use Rattle.table.proofs.Shape.{NodeShaped, Shaped}
+use Rattle.judge.specs.Reaching.{actionCount, ActionsFit}
 
 -- ---- the words from a place on
 
@@ -55,22 +56,45 @@ pub record ActionIs (M : Model) (r : ModelRead) (a : ℕ) (A : Action) : Type 0 
   pub at : ActionAt r a A
   pub good : GoodAction A
   pub formed : FormedAction M A
+  pub there : a < actionCount (r .index)
   pub limit : a < 32
 
 module _ (M : Model) (r : ModelRead) (x : Indexed M r) (good : GoodModel M) (formed : WellFormed M) where
+  -- the actions of a location end where those of the model do, or before
+  ends-by : (n l : ℕ) → suc l + n ≡ length (M .locations) → getD (r .index .actions) (suc l) 0 ≤ actionCount (r .index)
+  ends-by zero l e = let q : suc l ≡ r .index .locations = omega (arith, e, x .locations) in rw q (omega arith)
+  ends-by (suc n) l e =
+      let next = location-at x (suc l) (omega arith) .ends in
+      let rest = ends-by n (suc l) (omega arith) in
+      omega arith
+
+  -- there are at most 32
+  pub actions-fit : ActionsFit (r .index)
+  actions-fit = record {
+    locations = x .limit;
+    actions =
+        let some = formed .start in
+        let last : ℕ = length (M .locations) - 1 in
+        let q : r .index .locations ≡ suc last = omega (arith, some, x .locations) in
+        rw q (location-at x last (omega (arith, some)) .limit);
+    edges = record { at = x .edgeLimits };
+  }
+
   actions-from :
-      (As : List Action) (a : ℕ) → Each (ActionAt r) a As → All GoodAction As → All (FormedAction M) As → a + length As ≤ 32 →
+      (As : List Action) (a : ℕ) → Each (ActionAt r) a As → All GoodAction As → All (FormedAction M) As → a + length As ≤ actionCount (r .index) →
       Each (ActionIs M r) a As
   unfolding Each
   actions-from [] a e empty empty l = tt
   actions-from (A ∷ As) a e (more g gs) (more f fs) l =
-      (record { at = e .0; good = g; formed = f; limit = omega arith }, actions-from As (suc a) (e .1) gs fs (omega arith))
+      let few = actions-fit .actions in
+      (record { at = e .0; good = g; formed = f; there = omega arith; limit = omega arith }, actions-from As (suc a) (e .1) gs fs (omega arith))
 
   pub actions-at : (l : ℕ) → l < length (M .locations) → Each (ActionIs M r) (getD (r .index .actions) l 0) (locationAt M l .actions)
   actions-at l h =
       let L : LocationAt r l (locationAt M l) = location-at x l h in
+      let all = ends-by (length (M .locations) - suc l) l (omega arith) in
       actions-from (locationAt M l .actions) (getD (r .index .actions) l 0) (L .actions) (good .guards l) (formed .actions l)
-      (omega (arith, L .ends, L .limit))
+      (omega (arith, L .ends, all))
 
   -- how many they are
   pub actions-count : (l : ℕ) → l < length (M .locations) →

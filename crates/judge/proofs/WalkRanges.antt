@@ -47,7 +47,7 @@ module _ (M : Model) (words : List ℕ) (r : ModelRead) (t : TableRead) (x : Ind
   es = enabledSquares (r .index) (r .zones)
 
   enabled-in-range : (a : ℕ) (A : Action) → ActionIs M r a A → Small 4096 (getD es a universe)
-  enabled-in-range a A y = rw (enabled-at (r .index) (r .zones) a (y .limit)) (enabled-small x good (y .at) (y .good) (y .formed .edges))
+  enabled-in-range a A y = rw (enabled-at (r .index) (r .zones) a (y .limit) (y .there)) (enabled-small x good (y .at) (y .good) (y .formed .edges))
 
   rows-in-range :
       (nodes : ℕ) (As : List Action) (a at : ℕ) (ws : List ℕ) → Each (ActionIs M r) a As → drop at words ≡ ws → RowsStand nodes As ws →

@@ -94,7 +94,7 @@ module _ (M : Model) (r : ModelRead) (x : Indexed M r) (good : GoodModel M) wher
       (getD (enabledSquares (r .index) (r .zones)) a universe))
   reached N l z a A i =
       let f = i .formed .edges in
-      rw (enabled-at (r .index) (r .zones) a (i .limit)) (record {
+      rw (enabled-at (r .index) (r .zones) a (i .limit) (i .there)) (record {
         blocked-pass = blocked-yes x good N l z (i .at) (i .good) f;
         blocked-fail = blocked-no x good N l z (i .at) (i .good) f;
         onward-pass = onward-yes x good N l z (i .at) (i .good) f;

@@ -1,8 +1,10 @@
 -- Algorithm: square tables for a row's reach. What an action asks of a valuation before its resets is worked out once per model, where a node's
 -- states can wait once per node, and a row's reach by one more meeting. Assumes nothing.
 use Prim.Native.Nat.{ℕ, zero, suc, _+_, _-_, _≤_}
+use mathlib.Core.Bool.{cond}
 use mathlib.Core.List.{List}
 use lib.ListN.{getD}
+use lib.Dec.{ltb}
 use Rattle.zone.specs.Squares.{universe, listOf, met, tightened, delayedSquare, beforeReset}
 use Rattle.zone.specs.declared.zones.Zone.{Zone as Square}
 use Rattle.model.specs.Fields.{maskOf, landsAt}
@@ -25,9 +27,13 @@ unfoldable pub enabledSquare : Index → List Square → ℕ → Square
 enabledSquare x zs a =
     withLandings zs (x .words) (getD (x .edges) (suc a) 0 - getD (x .edges) a 0) (getD (x .edges) a 0) (getD zs (guardsAt + a) universe)
 
--- for every number of an action
+-- how many actions the model has
+abbrev pub actionCount : Index → ℕ
+actionCount x = getD (x .actions) (x .locations) 0
+
+-- for the number of each action; where there is none, every valuation
 unfoldable pub enabledSquares : Index → List Square → List Square
-enabledSquares x zs = listOf (enabledSquare x zs) 32 0
+enabledSquares x zs = listOf (λ a. cond (ltb a (actionCount x)) (enabledSquare x zs a) universe) 32 0
 
 -- what waiting attains from the states in the zone y, within the invariant i
 unfoldable pub waitedSquare : Square → Square → Square
@@ -42,3 +48,9 @@ reachSquare waited enabled = tightened (met waited enabled)
 -- the numbers of edges are places in the index's words or the end of them
 pub record EdgesFit (x : Index) : Type 0 where
   pub at : (a : ℕ) → getD (x .edges) a 0 ≤ 128
+
+-- the actions are no more than there are places for them
+pub record ActionsFit (x : Index) : Type 0 where
+  pub locations : x .locations ≤ 16
+  pub actions : actionCount x ≤ 32
+  pub edges : EdgesFit x

@@ -1,7 +1,7 @@
 ghost use mathlib.Core.Path.{_≡_};
 ghost use Prim.Native.Nat.{_^_};
 ghost use Rattle.zone.specs.Squares.{Small};
-ghost use Rattle.judge.specs.Reaching.{EdgesFit, enabledSquares, waitedSquare, reachSquare};
+ghost use Rattle.judge.specs.Reaching.{ActionsFit, enabledSquares, waitedSquare, reachSquare};
 use model::fields;
 use model::index::Index;
 use model::places::GUARDS;
@@ -9,14 +9,15 @@ use model::places::ZONES;
 use zone::zones::Zone;
 
 // What each action asks of a valuation before its resets: its guard holds, and each of its edges lands in its location's invariant. `zones` are
-// those of the model.
+// those of the model. Behind its last action stands every valuation.
 pub(crate) fn enabled_zones(index: Index, zones: [Zone; ZONES]) -> [Zone; 32]
-    requires { ⌜ EdgesFit index ⌝ }
+    requires { ⌜ ActionsFit index ⌝ }
     ensures { λ r. ⌜ r ≡ enabledSquares index zones ⌝ }
 {
     let universe = Zone::universe();
     let mut enabled = [universe; 32];
-    for a in 0..32 {
+    let locations = index.locations;
+    for a in 0..index.actions[locations] {
         let mut zone = zones[GUARDS + a];
         for e in index.edges[a]..index.edges[a + 1] {
             let edge = index.words[e];

@@ -1,17 +1,18 @@
 -- Laws of the kinds of words, and of what may follow what. Assumes nothing.
-use Prim.Native.Nat.{ℕ, _≤_}
-use mathlib.Core.Path.{_≡_, refl}
+use Prim.Native.Nat.{ℕ, _≤_, _<_}
+use mathlib.Core.Path.{_≡_, refl, _∙_}
 use mathlib.Core.Bool.{Bool, true, false, not, cond, _&&_, _||_}
 use mathlib.Core.List.{List, [], _∷_}
 use native.Mathlib.Omega.{arith}
 use borrow.Author.Tests.{eqb-true}
 use lib.Dec.{T, eqb, leb, leb→le, eqb→eq}
+use lib.ListN.{getD}
 use Rattle.zone.specs.Words.{kind}
 use Rattle.zone.proofs.Bools.{false-true, both, is-true, left-true, right-true}
 use Rattle.model.specs.Kinds.{Kind, none, head, location, action, edge, bound, start, number, kinds, among, kindOf}
 use Rattle.model.specs.TableKinds.{tableNumber, tableKinds}
 use Rattle.model.specs.Grammar.{follows, tableFollows, numbered?, mayFollow?, follows?, tableFollows?}
-use Rattle.model.proofs.TableRule.{same?, same}
+use Rattle.model.proofs.TableRule.{same?, same, keeps?, keeps}
 
 -- a word with the number of a kind is of that kind
 pub kind-is : (k : Kind) (w : ℕ) → kind w ≡ number k → kindOf w ≡ k
@@ -100,7 +101,7 @@ apart true b h = refl
 apart false true h = absurd (h refl)
 apart false false h = refl
 
-pub model-follows : (o n : ℕ) → o ≤ 6 → (follows? o n || tableFollows? o n) ≡ follows? o n
+model-follows : (o n : ℕ) → o ≤ 6 → (follows? o n || tableFollows? o n) ≡ follows? o n
 unfolding tableFollows? tableFollows
 model-follows o n h =
     apart (follows? o n) (tableFollows? o n)
@@ -109,7 +110,7 @@ model-follows o n h =
     later : 7 ≤ o → ⊥
     later l = omega arith
 
-pub table-follows : (o n : ℕ) → 7 ≤ o → (follows? o n || tableFollows? o n) ≡ tableFollows? o n
+table-follows : (o n : ℕ) → 7 ≤ o → (follows? o n || tableFollows? o n) ≡ tableFollows? o n
 unfolding follows
 table-follows o n h = by (follows? o n) (λ t. earlier (leb→le o 6 (table (λ o n. leb o 6) tt o n t)))
   where
@@ -120,20 +121,20 @@ table-follows o n h = by (follows? o n) (λ t. earlier (leb→le o 6 (table (λ 
     by true f = absurd (f refl)
     by false f = refl
 
--- openers are numbered up to 16 and kinds up to 15
-pub outside : (o n : ℕ) → (o ≤ 16 → n ≤ 15 → ⊥) → false ≡ (follows? o n || tableFollows? o n)
-unfolding follows tableFollows tableFollows?
-outside o n h =
-    by (follows? o n) (tableFollows? o n) (λ t. within (table (λ o n. leb o 16 && leb n 15) tt o n t))
-    (λ t. within (each-row tableNumber tableFollows (λ o n. leb o 16 && leb n 15) tableKinds o n tt t))
-  where
-    within : T (leb o 16 && leb n 15) → ⊥
-    within t = let ts = both (leb o 16) (leb n 15) t in h (leb→le o 16 (ts .0)) (leb→le n 15 (ts .1))
+-- ---- the constant table: rows that keep the rule of both files, at every entry
+pub record FollowsTable (rows : List (List Bool)) : Type 0 where
+  pub rule : keeps? (λ o n. follows? o n || tableFollows? o n) 17 16 rows ≡ true
 
-    by : (a b : Bool) → (a ≡ true → ⊥) → (b ≡ true → ⊥) → false ≡ (a || b)
-    by true b f g = absurd (f refl)
-    by false true f g = absurd (g refl)
-    by false false f g = refl
+-- what it says of a kind behind an opener of a model, and behind one of a table
+module _ {rows : List (List Bool)} (t : FollowsTable rows) {o n : ℕ} (k : n < 16) where
+  looked-up : o ≤ 16 → getD (getD rows o []) n false ≡ (follows? o n || tableFollows? o n)
+  looked-up h = keeps (λ o n. follows? o n || tableFollows? o n) 17 16 rows (t .rule) o n (omega arith) k
+
+  pub model-looked-up : o ≤ 6 → getD (getD rows o []) n false ≡ follows? o n
+  model-looked-up h = looked-up (omega arith) ∙ model-follows o n h
+
+  pub table-looked-up : (7 ≤ o) × (o ≤ 16) → getD (getD rows o []) n false ≡ tableFollows? o n
+  table-looked-up h = looked-up (h .1) ∙ table-follows o n (h .0)
 
 -- a head stands first, and nothing else does
 pub head-first : (o n : ℕ) → follows? o n ≡ true → eqb o 0 ≡ eqb n 1

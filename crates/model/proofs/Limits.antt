@@ -132,8 +132,9 @@ module _ (s : Seen) (w : ℕ) (h : WithinLimits s) (f : faultAt s w ≡ fault.No
   unfolding goodBound? fields?
   good-bound e = rw e (left-true _ _ (passes-as bound s w (eqb-true _ _ e) f .fields))
 
-  pub bound-first : is bound w ≡ true → boundOf w .i < 5
-  bound-first e = let b = good-first (s .clocks) w (good-bound e) in omega arith
-
-  pub bound-second : is bound w ≡ true → boundOf w .j < 5
-  bound-second e = let b = good-second (s .clocks) w (good-bound e) in omega arith
+  -- and its cell is one of the table's
+  pub bound-cell : is bound w ≡ true → boundOf w .i * 5 + boundOf w .j < 25
+  bound-cell e =
+      let first = good-first (s .clocks) w (good-bound e) in
+      let second = good-second (s .clocks) w (good-bound e) in
+      omega arith

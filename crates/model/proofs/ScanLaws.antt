@@ -1,18 +1,18 @@
 -- Laws of the pass over the words: what a turn of the loop comes to. Assumes nothing.
-use Prim.Native.Nat.{ℕ, zero, suc, _+_, _≤_, _<_, _^_}
+use Prim.Native.Nat.{ℕ, zero, suc, _+_, _*_, _≤_, _<_, _^_}
 use mathlib.Core.Path.{_≡_, refl, sym, ap, _∙_}
-use mathlib.Core.Bool.{false}
 use mathlib.Core.List.{List, [], _∷_}
 use native.Mathlib.Nat.{le-of-suc-le-suc, not-suc-le-zero}
 use native.Mathlib.Numerals.{add-one}
 use native.Mathlib.Omega.{arith}
 use borrow.Author.Tests.{eq-eqb, ne-eqb, lt-ltb, le-ltb}
-use lib.Dec.{eqb}
-use lib.ListN.{length, drop, getD, set, take, drop-of-length-le}
-use lib.Seq.{drop-cons, length-take-le, getD-take}
-use Rattle.zone.specs.Words.{kind}
-use Rattle.zone.specs.Squares.{universe, met, Small}
-use Rattle.zone.specs.Reading.{withWord}
+use lib.ListN.{length, drop, getD, set, take, length-set, drop-of-length-le}
+use lib.Seq.{drop-cons, length-take-le, getD-take, getD-set-same, set-set}
+use Rattle.zone.specs.Words.{kind, boundOf}
+use Rattle.zone.specs.Cells.{unbounded, tighterOf}
+use Rattle.zone.specs.Squares.{universe, withBound, met, Small}
+use Rattle.zone.specs.Reading.{cellOf, withWord}
+use Rattle.zone.specs.declared.bounds.Bound.{Bound as Cell}
 use Rattle.zone.specs.declared.zones.Zone.{Zone as Square}
 use Rattle.zone.proofs.Sizes.{small-weaken, small-met}
 use Rattle.model.specs.Kinds.{Kind, none, head, location, action, edge, bound, start, number}
@@ -79,23 +79,19 @@ module _ (s : Seen) (w p : ℕ) where
       at start q = refl
 
 module _ (s : Seen) (w : ℕ) (zs : List Square) where
-  -- a bound goes to its slot
+  -- a bound goes to the zone of its opener, the zone z that stands apart, at the cell of index p
   pub zones-bound :
-      kind w ≡ number bound → s .slot < length zs → set zs (s .slot) (withWord w (getD zs (s .slot) noZone)) ≡ zonesWith s w zs
-  unfolding zonesWith
-  zones-bound e h = rw (eq-eqb _ _ e, one-default zs (s .slot) noZone universe h)
+      (z : Square) (p : ℕ) (b : Cell) {b′ : Cell} → kind w ≡ number bound → s .slot < length (set zs (s .slot) z) →
+      p ≡ boundOf w .i * 5 + boundOf w .j → b ≡ cellOf (boundOf w) → b′ ≡ tighterOf (getD (z .cells) p unbounded) b →
+      set zs (s .slot) (record { cells = set (z .cells) p b′ }) ≡ zonesWith s w (set zs (s .slot) z)
+  unfolding zonesWith withWord withBound
+  zones-bound z p b e h ep eb et =
+      let read = getD-set-same zs (s .slot) z universe (rw (length-set zs (s .slot) z) at h) in
+      rw (eq-eqb _ _ e, read, set-set zs (s .slot) z (withWord w z), et, eb, ep)
 
   pub zones-stay : (kind w ≡ number bound → ⊥) → zs ≡ zonesWith s w zs
   unfolding zonesWith
   zones-stay n = rw (ne-eqb _ _ n)
-
--- a part goes to the index alone
-pub part-step :
-    (s : Seen) (w p : ℕ) (x : Index) (zs : List Square) {x′ : Index} {zs′ : List Square} (k : Kind) →
-    kind w ≡ number k → eqb (number k) (number bound) ≡ false → x′ ≡ indexWithKind k s w p x → zs′ ≡ zs →
-    (x′ ≡ indexWith s w p x) × (zs′ ≡ zonesWith s w zs)
-unfolding zonesWith
-part-step s w p x zs k e n ex ez = (ex ∙ index-step s w p x k e, ez ∙ rw (e, n))
 
 -- ---- the pass, at the word of index p
 stops : (f : Fault) → (f ≡ fault.None → ⊥) → (stop go : Scanned) → stop ≡ unlessFault f stop go

@@ -21,7 +21,7 @@ same false b t = sym (not-true b t)
 abbrev pub keeps? : (ℕ → ℕ → Bool) → ℕ → ℕ → List (List Bool) → Bool
 keeps? f n m rows = all? n (λ (i : ℕ). all? m (λ (j : ℕ). same? (getD (getD rows i []) j false) (f i j)))
 
--- `simp (keeps f n m)` finds the table in the goal and computes the test
+-- each entry, from the one test
 module _ (f : ℕ → ℕ → Bool) (n m : ℕ) where
   pub keeps :
       (rows : List (List Bool)) → keeps? f n m rows ≡ true → (i j : ℕ) → i < n → j < m → getD (getD rows i []) j false ≡ f i j

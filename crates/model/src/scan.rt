@@ -48,13 +48,25 @@ pub(crate) fn scan(list: &[u32]) -> Scanned
     let mut index = Index::EMPTY;
     let universe = Zone::universe();
     let mut zones = [universe; ZONES];
+    let mut current = universe; // the zone of the last opener, put at its slot when the next is read
+    let follows = kinds::FOLLOWS; // once, not at each word
     for at in 0..list.len() {
         let word = list[at];
-        let fault = seen.fault(word);
+        let kind = words::kind_of(word);
+        let allowed = follows[seen.opener as usize][kind as usize];
+        let fault = seen.fault(allowed, word);
+        let slot = seen.slot;
         let Fault::None = fault else {
+            zones[slot] = current;
             return Scanned::at(fault, at, seen, index, zones);
         };
-        let kind = words::kind_of(word);
+        if kind == kinds::BOUND {
+            let p = words::cell_of(word);
+            let old = current.cells[p];
+            current.cells[p] = old.tighter_of(words::bound_of(word));
+            continue;
+        }
+        zones[slot] = current;
         match kind {
             kinds::LOCATION => {
                 let l = seen.locations;
@@ -69,15 +81,14 @@ pub(crate) fn scan(list: &[u32]) -> Scanned
                 let e = seen.edges;
                 index.words[e] = EdgeWord { word, place: at };
             }
-            kinds::BOUND => {
-                let slot = seen.slot;
-                let zone = zones[slot];
-                zones[slot] = words::with_word(zone, word);
-            }
             _ => {}
         }
         seen = seen.with_word(word, at);
+        let next = seen.slot;
+        current = zones[next];
     }
+    let slot = seen.slot;
+    zones[slot] = current;
     let fault = seen.last_fault();
     Scanned::at(fault, list.len(), seen, index.closed(seen), zones)
 }

@@ -1,4 +1,6 @@
 ghost use mathlib.Core.Path.{_≡_};
+ghost use Rattle.zone.specs.Words.{kind};
+ghost use Rattle.model.specs.Grammar.{follows?};
 ghost use Rattle.model.specs.Scan.{WithinLimits, fieldsAt?, limitAt?, addsAt?, faultAt, lastFault};
 ghost use Rattle.model.specs.Scan.{withHead, withLocation, withAction, withEdge, withStart, seenWith};
 use crate::fields;
@@ -85,12 +87,12 @@ impl Seen {
             | (self.weights == self.denominator)
     }
 
-    // The first check that a word fails.
-    pub(crate) fn fault(self, word: u32) -> Fault
-        requires { ⌜ WithinLimits self ⌝ }
+    // The first check that a word fails, where the constant table says whether it is allowed behind the opener.
+    pub(crate) fn fault(self, allowed: bool, word: u32) -> Fault
+        requires { ⌜ WithinLimits self × (allowed ≡ follows? (self .opener) (kind word)) ⌝ }
         ensures { λ r. ⌜ r ≡ faultAt self word ⌝ }
     {
-        if !kinds::may_follow(self.opener, words::kind_of(word)) {
+        if !allowed {
             return Fault::Kind;
         }
         if !self.fields(word) {

@@ -218,10 +218,12 @@ module _ (x : Index) (s : Seen) (w : ℕ) (fits : IndexFits x) (h : WithinLimits
 
   -- ---- what a word that fails no check says
 
-  -- a bound and a value stand behind a node, whose location exists
-  pub bound-node : kind w ≡ 5 → (1 ≤ s .nodes) × (s .location < x .locations)
-  bound-node e = node-behind x s fits h 5 refl (passes-as nodeBound x s w e f .follows)
+  -- there is room for a node
+  pub node-room : kind w ≡ 8 → s .nodes < 64
+  unfolding limit?
+  node-room e = ltb-true _ _ (passes-as node x s w e f .limit)
 
+  -- a value stands behind a node, whose location exists
   pub value-node : kind w ≡ 9 → (1 ≤ s .nodes) × (s .location < x .locations)
   value-node e = node-behind x s fits h 9 refl (passes-as value x s w e f .follows)
 

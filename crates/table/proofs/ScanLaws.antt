@@ -1,5 +1,5 @@
 -- Laws of the pass over a table's words: what a turn of the loop comes to. Assumes nothing.
-use Prim.Native.Nat.{ℕ, _+_, _-_, _≤_, _<_}
+use Prim.Native.Nat.{ℕ, _+_, _-_, _*_, _≤_, _<_}
 use mathlib.Core.Path.{_≡_, refl, sym, ap, _∙_}
 use mathlib.Core.Bool.{Bool, true, false, not, cond, _&&_, _||_}
 use mathlib.Core.List.{List}
@@ -8,15 +8,17 @@ use native.Mathlib.Omega.{arith}
 use borrow.Author.Tests.{eq-eqb, ne-eqb, leb-true, leb-false, lt-ltb, le-ltb}
 use lib.Dec.{leb, ltb}
 use lib.ListN.{length, drop, getD, set, length-set, drop-of-length-le}
-use lib.Seq.{drop-cons}
-use Rattle.zone.specs.Words.{kind}
-use Rattle.zone.specs.Squares.{universe}
-use Rattle.zone.specs.Reading.{withWord}
+use lib.Seq.{drop-cons, set-set, set-getD, getD-set-same}
+use Rattle.zone.specs.Words.{kind, boundOf}
+use Rattle.zone.specs.Cells.{unbounded, tighterOf}
+use Rattle.zone.specs.Squares.{universe, withBound}
+use Rattle.zone.specs.Reading.{cellOf, withWord}
+use Rattle.zone.specs.declared.bounds.Bound.{Bound as Cell}
 use Rattle.zone.specs.declared.zones.Zone.{Zone as Square}
 use Rattle.zone.proofs.Bools.{false-true}
 use Rattle.model.specs.TableKinds.{TableKind, noKind, tableHead, node, nodeBound, value, blocked, successor, startNode, tableNumber, isTable}
 use Rattle.model.specs.declared.index.Index.{Index}
-use Rattle.model.proofs.ScanLaws.{noZone, one-default}
+use Rattle.model.proofs.ScanLaws.{noZone}
 use Rattle.table.specs.Fields.{numberOf}
 use Rattle.table.specs.Scan.{faultAt, lastFault, withValue, withSuccessor, firstRow, endRow, edgesAt, seenWithKind, seenWith}
 use Rattle.table.specs.Scan.{IndexFits, WithinLimits}
@@ -55,6 +57,21 @@ module _ (s : Seen) (w p : ℕ) where
         at successor q = absurd (b q)
         at startNode q = absurd (c q)
 
+    -- the nodes are as many, where it is no node
+    pub count-stays : (kind w ≡ 8 → ⊥) → s .nodes ≡ seenWith x s w p .nodes
+    unfolding seenWith seenWithKind
+    count-stays n = by-kind (λ (k : TableKind). s .nodes ≡ seenWithKind k x s w p .nodes) w refl at
+      where
+        at : (k : TableKind) → kind w ≡ tableNumber k → s .nodes ≡ seenWithKind k x s w p .nodes
+        at noKind q = refl
+        at tableHead q = refl
+        at node q = absurd (n q)
+        at nodeBound q = refl
+        at value q = refl
+        at blocked q = refl
+        at successor q = refl
+        at startNode q = refl
+
     -- the rows behind a value: none at a target
     pub value-step :
         kind w ≡ 9 →
@@ -71,10 +88,9 @@ module _ (s : Seen) (w p : ℕ) where
 
   -- a value completes the last node
   module _ (ns : List NodeEntry) where
-    pub nodes-value :
-        kind w ≡ 9 → set ns (s .nodes - 1) (entryOf (s .location) w p) ≡ nodesWith s w p ns
+    pub nodes-value : {n : ℕ} → kind w ≡ 9 → n ≡ s .nodes - 1 → set ns n (entryOf (s .location) w p) ≡ nodesWith s w p ns
     unfolding nodesWith
-    nodes-value e = rw (eq-eqb _ _ e)
+    nodes-value e slot = rw (eq-eqb _ _ e, slot)
 
     pub nodes-stay : (kind w ≡ 9 → ⊥) → ns ≡ nodesWith s w p ns
     unfolding nodesWith
@@ -91,27 +107,53 @@ module _ (s : Seen) (w p : ℕ) where
         by true = length-set ns (s .nodes - 1) entry
         by false = refl
 
-module _ (s : Seen) (w : ℕ) (zs : List Square) where
-  -- a bound goes to the zone of the last node
-  pub zones-bound :
-      kind w ≡ 5 → s .nodes - 1 < length zs → set zs (s .nodes - 1) (withWord w (getD zs (s .nodes - 1) noZone)) ≡ zonesWith s w zs
-  unfolding zonesWith
-  zones-bound e h = rw (eq-eqb _ _ e, one-default zs (s .nodes - 1) noZone universe h)
+-- the zone where the bound of a word holds too, from the cell where it stands
+pub zone-bound :
+    (w p : ℕ) (b : Cell) (z : Square) → p ≡ boundOf w .i * 5 + boundOf w .j → b ≡ tighterOf (getD (z .cells) p unbounded) (cellOf (boundOf w)) →
+    record { cells = set (z .cells) p b } ≡ withWord w z
+unfolding withWord withBound
+zone-bound w p b z e f = rw (f, e)
 
-  pub zones-stay : (kind w ≡ 5 → ⊥) → zs ≡ zonesWith s w zs
-  unfolding zonesWith
-  zones-stay n = rw (ne-eqb _ _ n)
+module _ (x : Index) (s : Seen) (w p : ℕ) (zs : List Square) (n : ℕ) (z : Square) where
+  -- z, the zone of the last node, is held apart from zs, where its slot is n. Behind the word w it is z′, and its slot n′ of zs′
+  pub record Held (zs′ : List Square) (n′ : ℕ) (z′ : Square) : Type 0 where
+    pub zones : set zs′ n′ z′ ≡ zonesWith s w (set zs n z)
+    pub room : length zs′ ≡ 64
+    pub slot : n′ ≡ seenWith x s w p .nodes - 1
 
-  pub zones-length : length (zonesWith s w zs) ≡ length zs
-  unfolding zonesWith
-  zones-length = by (isTable nodeBound w)
-    where
-      zone : Square
-      zone = withWord w (getD zs (s .nodes - 1) universe)
+  module _ (room : length zs ≡ 64) (slot : n ≡ s .nodes - 1) where
+    -- a bound goes to z
+    pub held-bound :
+        {zs′ : List Square} {n′ : ℕ} {z′ : Square} →
+        kind w ≡ 5 → n < 64 → zs′ ≡ zs → n′ ≡ n → z′ ≡ withWord w z → Held zs′ n′ z′
+    unfolding zonesWith seenWith seenWithKind
+    held-bound e h ez en e′ = record {
+      zones = rw (ez, en, e′, eq-eqb _ _ e, sym slot, set-set zs n z (withWord w (getD (set zs n z) n universe)))
+          (ap (λ u. set zs n (withWord w u)) (sym (getD-set-same zs n z universe (rw room h))));
+      room = rw ez room;
+      slot = rw (en, kind-is nodeBound w e) slot;
+    }
 
-      by : (b : Bool) → length (cond b (set zs (s .nodes - 1) zone) zs) ≡ length zs
-      by true = length-set zs (s .nodes - 1) zone
-      by false = refl
+    -- at a node z is put at its slot, and the zone at the next is taken
+    pub held-node :
+        {zs′ : List Square} {n′ : ℕ} {z′ : Square} →
+        kind w ≡ 8 → zs′ ≡ set zs n z → n′ ≡ s .nodes → z′ ≡ getD (set zs n z) (s .nodes) noZone → Held zs′ n′ z′
+    unfolding zonesWith seenWith seenWithKind
+    held-node e ez en e′ = record {
+      zones = rw (ez, en, e′, e, set-getD (set zs n z) (s .nodes) noZone);
+      room = rw ez (length-set zs n z ∙ room);
+      slot = rw (en, kind-is node w e) (omega arith);
+    }
+
+    pub held-other :
+        {zs′ : List Square} {n′ : ℕ} {z′ : Square} →
+        (kind w ≡ 5 → ⊥) → (kind w ≡ 8 → ⊥) → zs′ ≡ zs → n′ ≡ n → z′ ≡ z → Held zs′ n′ z′
+    unfolding zonesWith
+    held-other b o ez en e′ = record {
+      zones = rw (ez, en, e′, ne-eqb _ _ b);
+      room = rw ez room;
+      slot = en ∙ slot ∙ ap (λ m. m - 1) (count-stays s w p x o);
+    }
 
 -- ---- the pass, at the word of index p
 stops : (f : Fault) → (f ≡ fault.None → ⊥) → (stop go : Scanned) → stop ≡ unlessFault f stop go
@@ -138,18 +180,16 @@ module _ (x : Index) (ws : List ℕ) (p : ℕ) (s : Seen) (ns : List NodeEntry) 
     -- past a word without a fault: the loop's facts, once more
     pub scan-go :
         {r : Scanned} {s′ : Seen} {ns′ : List NodeEntry} {zs′ : List Square} →
-        IndexFits x → WithinLimits x s → length ns ≡ 64 → length zs ≡ 64 → r ≡ scanFrom x s ns zs p (drop p ws) →
+        IndexFits x → WithinLimits x s → length ns ≡ 64 → r ≡ scanFrom x s ns zs p (drop p ws) →
         faultAt s (x .clocks) (x .locations) (getD ws p 0) ≡ fault.None →
-        (s′ ≡ seenWith x s (getD ws p 0) p) × (ns′ ≡ nodesWith s (getD ws p 0) p ns) × (zs′ ≡ zonesWith s (getD ws p 0) zs) →
-        (p + 1 ≤ length ws) × WithinLimits x s′ × (length ns′ ≡ 64) × (length zs′ ≡ 64)
-        × (r ≡ scanFrom x s′ ns′ zs′ (p + 1) (drop (p + 1) ws))
+        s′ ≡ seenWith x s (getD ws p 0) p → ns′ ≡ nodesWith s (getD ws p 0) p ns → zs′ ≡ zonesWith s (getD ws p 0) zs →
+        (p + 1 ≤ length ws) × WithinLimits x s′ × (length ns′ ≡ 64) × (r ≡ scanFrom x s′ ns′ zs′ (p + 1) (drop (p + 1) ws))
     unfolding scanFrom unlessFault
-    scan-go fits good ln lz i e step = (
+    scan-go fits good ln i e es en ez = (
       omega arith,
-      rw (step .0) (limits-with x s (getD ws p 0) fits good e p),
-      rw (step .1) (nodes-length s (getD ws p 0) p ns ∙ ln),
-      rw (step .2) (zones-length s (getD ws p 0) zs ∙ lz),
-      i ∙ rw (step .0, step .1, step .2, drop-cons ws p 0 h, e, add-one p),
+      rw es (limits-with x s (getD ws p 0) fits good e p),
+      rw en (nodes-length s (getD ws p 0) p ns ∙ ln),
+      i ∙ rw (es, en, ez, drop-cons ws p 0 h, e, add-one p),
     )
 
 -- ---- the numbers of nodes, from the word of index p on

@@ -39,30 +39,40 @@ impl Scanned {
     }
 }
 
-// One pass over the words. The nodes and their zones are written in place, since they are large.
+// One pass over the words. The nodes and their zones are written in place, since they are large. The zone of the last node is `current`, and
+// is put at its slot n at the next node and where the pass ends.
 pub(crate) fn scan(index: Index, list: &[u32]) -> Scanned
     requires { ⌜ IndexFits index ⌝ }
     ensures { λ r. ⌜ r ≡ scanned index (now (list .entry)) ⌝ }
 {
     let mut seen = Seen::NOTHING;
     let mut nodes = [NodeEntry::NONE; 64];
-    let universe = Zone::universe();
-    let mut zones = [universe; 64];
+    let mut current = Zone::universe();
+    let mut zones = [current; 64];
+    let mut n = 0;
+    let follows = kinds::FOLLOWS; // once, not at each word
     for at in 0..list.len() {
         let word = list[at];
-        let fault = seen.fault(index.clocks, index.locations, word);
+        let kind = words::kind_of(word);
+        let allowed = follows[seen.opener as usize][kind as usize];
+        let fault = seen.fault(allowed, index.clocks, index.locations, word);
         let Fault::None = fault else {
+            zones[n] = current;
             return Scanned::at(fault, at, seen, nodes, zones);
         };
-        let kind = words::kind_of(word);
         match kind {
             kinds::BOUND => {
-                let n = seen.nodes - 1;
-                let zone = zones[n];
-                zones[n] = words::with_word(zone, word);
+                let p = words::cell_of(word);
+                let old = current.cells[p];
+                current.cells[p] = old.tighter_of(words::bound_of(word));
+            }
+            kinds::NODE => {
+                zones[n] = current;
+                n = seen.nodes;
+                current = zones[n];
+                seen = seen.with_node(word);
             }
             kinds::VALUE => {
-                let n = seen.nodes - 1;
                 let l = seen.location;
                 nodes[n] = NodeEntry::of(l, word, at);
                 seen = seen.with_value(index.targets[l], index.actions[l], index.actions[l + 1]);
@@ -76,6 +86,7 @@ pub(crate) fn scan(index: Index, list: &[u32]) -> Scanned
             }
         }
     }
+    zones[n] = current;
     let fault = seen.last_fault();
     Scanned::at(fault, list.len(), seen, nodes, zones)
 }

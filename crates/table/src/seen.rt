@@ -1,7 +1,9 @@
 ghost use mathlib.Core.Path.{_≡_};
 ghost use mathlib.Core.Bool.{false, cond};
 ghost use Prim.Native.Nat.{_<_, _≤_};
+ghost use Rattle.zone.specs.Words.{kind};
 ghost use Rattle.model.specs.TableKinds.{value, successor, isTable};
+ghost use Rattle.model.specs.Grammar.{tableFollows?};
 ghost use Rattle.model.specs.declared.index.Index.{Index};
 ghost use Rattle.table.specs.Scan.{rowsAllowAt?, fieldsAt?, limitAt?, faultAt, lastFault};
 ghost use Rattle.table.specs.Scan.{withHead, withNode, withValue, withBlocked, withSuccessor, withStart, seenWith};
@@ -81,12 +83,12 @@ impl Seen {
         !(words::kind_of(word) == kinds::NODE) | (self.nodes < 64)
     }
 
-    // The first check that a word fails.
-    pub(crate) fn fault(self, clocks: u32, locations: usize, word: u32) -> Fault
-        requires { ⌜ 7 ≤ self .opener ⌝ }
+    // The first check that a word fails, where the constant table says whether it is allowed behind the opener.
+    pub(crate) fn fault(self, allowed: bool, clocks: u32, locations: usize, word: u32) -> Fault
+        requires { ⌜ allowed ≡ tableFollows? (self .opener) (kind word) ⌝ }
         ensures { λ r. ⌜ r ≡ faultAt self clocks locations word ⌝ }
     {
-        if !(kinds::may_follow(self.opener, words::kind_of(word)) & self.rows_allow(word)) {
+        if !(allowed & self.rows_allow(word)) {
             return Fault::Kind;
         }
         if !self.fields(clocks, locations, word) {

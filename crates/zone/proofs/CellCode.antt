@@ -23,17 +23,26 @@ module _ (a b : Cell) where
       let back : toZ w64 (ofZ w64 g) ≡ g = toZ-ofZ (record { sfits = h }) in
       rw (back, e, gap-tests (a .d) (b .d) (a .strict && not (b .strict)))
 
-  pub first-tighter : tighter? a b ≡ true → a ≡ tighterOf a b
-  unfolding tighterOf
-  first-tighter e = simp e
+  pub not-finite : a .finite ≡ false → tighter? a b ≡ false
+  unfolding tighter?
+  not-finite e = simp e
 
-  pub second-tighter : tighter? a b ≡ false → b ≡ tighterOf a b
+  pub is-tightened : tighter? b a ≡ true → b ≡ tighterOf a b
   unfolding tighterOf
-  second-tighter e = simp e
+  is-tightened e = simp e
+
+  pub not-tightened : tighter? b a ≡ false → a ≡ tighterOf a b
+  unfolding tighterOf
+  not-tightened e = simp e
 
   pub no-sum : (a .finite && b .finite) ≡ false → unbounded ≡ sum a b
   unfolding sum
   no-sum e = simp e
+
+  -- a sum with what is not finite tightens nothing
+  pub none-through : a .finite ≡ false → (c : Cell) → c ≡ tighterOf c (sum a b)
+  unfolding sum tighterOf tighter?
+  none-through e c = simp e
 
   module _ (h : mag (a .d) < 2 ^ 30) (k : mag (b .d) < 2 ^ 30) where
     pub sum-fits : SFits w32 (toZ w32 (ofZ w32 (a .d)) +ℤ toZ w32 (ofZ w32 (b .d)))
@@ -57,7 +66,7 @@ size-cond false a b h k = k
 
 pub size-tighterOf : (a b : Cell) {n : ℕ} → mag (a .d) < n → mag (b .d) < n → mag (tighterOf a b .d) < n
 unfolding tighterOf
-size-tighterOf a b h k = size-cond (tighter? a b) a b h k
+size-tighterOf a b h k = size-cond (tighter? b a) b a k h
 
 pub size-sum : (a b : Cell) {n : ℕ} → mag (a .d) < n → mag (b .d) < n → mag (sum a b .d) < n + n
 unfolding sum

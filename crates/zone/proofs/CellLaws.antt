@@ -88,51 +88,51 @@ asTight-negative a = asTight-tighter atMostZero a
 -- ---- the tighter of two
 pub tighterOf-cases : (a b : Cell) (P : Cell → Type 0) → P a → P b → P (tighterOf a b)
 unfolding tighterOf
-tighterOf-cases a b P p q = by (tighter? a b)
+tighterOf-cases a b P p q = by (tighter? b a)
   where
-    by : (c : Bool) → P (cond c a b)
-    by true = p
-    by false = q
+    by : (c : Bool) → P (cond c b a)
+    by true = q
+    by false = p
 
 pub tighterOf-left : (a b : Cell) → tighterOf a b ⊑ a
 unfolding tighterOf
-tighterOf-left a b = by (tighter? a b) (asTight-⊑ b a)
+tighterOf-left a b = by (tighter? b a) (tells b a .yes)
   where
-    by : (c : Bool) → (T (not c) → b ⊑ a) → cond c a b ⊑ a
-    by true h = ⊑-refl a
-    by false h = h tt
+    by : (c : Bool) → (T c → T (b .finite) × (T (a .finite) → side b a < side a b)) → cond c b a ⊑ a
+    by true h = let (f, l) = h tt in record { at = λ g. (f, omega (arith, l g)) }
+    by false h = ⊑-refl a
 
 pub tighterOf-right : (a b : Cell) → tighterOf a b ⊑ b
 unfolding tighterOf
-tighterOf-right a b = by (tighter? a b) (tells a b .yes)
+tighterOf-right a b = by (tighter? b a) (asTight-⊑ a b)
   where
-    by : (c : Bool) → (T c → T (a .finite) × (T (b .finite) → side a b < side b a)) → cond c a b ⊑ b
-    by true h = let (f, l) = h tt in record { at = λ g. (f, omega (arith, l g)) }
-    by false h = ⊑-refl b
+    by : (c : Bool) → (T (not c) → a ⊑ b) → cond c b a ⊑ b
+    by true h = ⊑-refl b
+    by false h = h tt
 
 tighter-⊑ : (a b : Cell) → tighter? a b ≡ true → a ⊑ b
 unfolding tighterOf
-tighter-⊑ a b e = subst (λ c. c ⊑ b) (ap (λ t. cond t a b) e) (tighterOf-right a b)
+tighter-⊑ a b e = subst (λ c. c ⊑ b) (ap (λ t. cond t a b) e) (tighterOf-left b a)
 
 pub tighterOf-assoc : (a b c : Cell) → tighterOf (tighterOf a b) c ≡ tighterOf a (tighterOf b c)
 unfolding tighterOf
-tighterOf-assoc a b c = by (tighter? a b) (tighter? b c) (tighter? a c) refl refl refl
+tighterOf-assoc a b c = by (tighter? b a) (tighter? c b) (tighter? c a) refl refl refl
   where
-    -- a is at least as tight as b, and c as a, so c as b
-    first : tighter? a b ≡ true → tighter? b c ≡ true → tighter? a c ≡ false → {X : Type 0} → X
-    first p q r = true-false (sym q ∙ asTight-tighter c b .1 (⊑-trans (asTight-tighter c a .0 r) (tighter-⊑ a b p)))
+    -- b is at least as tight as a, and a as c, so b as c
+    last : tighter? b a ≡ true → tighter? c b ≡ true → tighter? c a ≡ false → {X : Type 0} → X
+    last p q r = true-false (sym q ∙ asTight-tighter b c .1 (⊑-trans (tighter-⊑ b a p) (asTight-tighter a c .0 r)))
 
-    last : tighter? a b ≡ false → tighter? b c ≡ false → tighter? a c ≡ true → {X : Type 0} → X
-    last p q r = true-false (sym r ∙ asTight-tighter c a .1 (⊑-trans (asTight-tighter c b .0 q) (asTight-tighter b a .0 p)))
+    first : tighter? b a ≡ false → tighter? c b ≡ false → tighter? c a ≡ true → {X : Type 0} → X
+    first p q r = true-false (sym r ∙ asTight-tighter a c .1 (⊑-trans (asTight-tighter a b .0 p) (asTight-tighter b c .0 q)))
 
-    by : (p q r : Bool) → tighter? a b ≡ p → tighter? b c ≡ q → tighter? a c ≡ r →
-        cond (tighter? (cond p a b) c) (cond p a b) c ≡ cond (tighter? a (cond q b c)) a (cond q b c)
-    by true true true p q r = rw (p, r) refl
-    by true true false p q r = first p q r
-    by true false r p q e = refl
-    by false true r p q e = rw (p, q) refl
-    by false false true p q r = last p q r
-    by false false false p q r = rw (q, r) refl
+    by : (p q r : Bool) → tighter? b a ≡ p → tighter? c b ≡ q → tighter? c a ≡ r →
+        cond (tighter? c (cond p b a)) c (cond p b a) ≡ cond (tighter? (cond q c b) a) (cond q c b) a
+    by true true true p q r = rw (q, r) refl
+    by true true false p q r = last p q r
+    by true false r p q e = rw (p, q) refl
+    by false true r p q e = refl
+    by false false true p q r = first p q r
+    by false false false p q r = rw (p, r) refl
 
 -- ---- the sum
 -- r is s or t

@@ -1,6 +1,6 @@
 -- Loops over arrays: one that fills an array from the front, and one that looks for a number that fails a test. Assumes nothing.
 use Prim.Native.Nat.{ℕ, zero, suc, _+_, _*_, _/_, _%_, _≤_, _<_}
-use mathlib.Core.Path.{_≡_, refl, sym, ap, ap₂, _∙_}
+use mathlib.Core.Path.{_≡_, refl, sym, ap, ap₂, subst, _∙_}
 use mathlib.Core.Bool.{Bool, true, false, _&&_, and-false}
 use mathlib.Core.List.{List, _∷_}
 use mathlib.Core.Logic.{_⊎_, inl, inr}
@@ -90,6 +90,12 @@ module _ {A : Type 0} {d : A} {n : ℕ} {goal old : List A} where
         at : (k : ℕ) → (k < p) ⊎ (p ≤ k) → k < q → getD xs k d ≡ getD goal k d
         at k (inl l) g = t .done k l
         at k (inr l) g = t .rest k l ∙ e k l g
+
+    pub same-place : {q : ℕ} → p ≡ q → Filled d n goal old q xs
+    same-place e = subst (λ k. Filled d n goal old k xs) e t
+
+    pub unchanged : getD old p d ≡ getD goal p d → Filled d n goal old (p + 1) xs
+    unchanged e = kept (p + 1) (omega arith) (λ k l m. let q : k ≡ p = omega arith in rw q e)
 
     pub all-filled : length goal ≡ n → n ≤ p → xs ≡ goal
     all-filled e h = let s = t .size in ext-getD d xs goal (t .size ∙ sym e) (λ k l. t .done k (omega arith))

@@ -1,5 +1,5 @@
 -- Laws of reading bound words into a table: what a turn of the loop comes to, and what the outcome says of the words' checks. Assumes nothing.
-use Prim.Native.Nat.{ℕ, suc, _+_, _≤_, _<_}
+use Prim.Native.Nat.{ℕ, suc, _+_, _*_, _≤_, _<_}
 use mathlib.Core.Path.{_≡_, refl}
 use mathlib.Core.Logic.{_⊎_, inl, inr}
 use mathlib.Core.Bool.{Bool, true, false, cond}
@@ -7,16 +7,26 @@ use mathlib.Core.List.{List, [], _∷_}
 use native.Mathlib.Numerals.{add-one}
 use native.Mathlib.Omega.{arith}
 use lib.Dec.{T}
-use lib.ListN.{length, drop, getD, drop-of-length-le}
+use lib.ListN.{length, drop, getD, set, drop-of-length-le}
 use lib.Seq.{drop-cons}
-use Rattle.zone.specs.Words.{goodBound?}
+use Rattle.zone.specs.Cells.{unbounded, tighterOf}
+use Rattle.zone.specs.Squares.{withBound}
+use Rattle.zone.specs.Words.{boundOf, goodBound?}
 use Rattle.zone.specs.Checks.{Answer, refused, First}
 use Rattle.zone.specs.Questions.{boundChecks}
-use Rattle.zone.specs.Reading.{withWord, readFrom}
+use Rattle.zone.specs.Reading.{cellOf, withWord, readFrom}
+use Rattle.zone.specs.declared.bounds.Bound.{Bound as Cell}
 use Rattle.zone.specs.declared.zones.Zone.{Zone as Square}
 use Rattle.zone.specs.declared.questions.ZoneRead.{ZoneRead}
 use Rattle.zone.proofs.Bools.{true-false}
 use Rattle.zone.proofs.CheckLaws.{AllHold}
+
+-- the bound of a word, put in its cell
+pub word-put :
+    (w : ℕ) (z : Square) (p : ℕ) (b new : Cell) → p ≡ boundOf w .i * 5 + boundOf w .j → b ≡ cellOf (boundOf w) →
+    new ≡ tighterOf (getD (z .cells) p unbounded) b → _≡_ {A = Square} (record { cells = set (z .cells) p new }) (withWord w z)
+unfolding withWord withBound
+word-put w z p b new e f g = rw (g, f, e)
 
 -- ---- the loop, at the word of index p
 module _ (C : ℕ) (ws : List ℕ) (p : ℕ) (z : Square) where

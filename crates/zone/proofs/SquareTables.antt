@@ -11,6 +11,7 @@ use lib.ListN.{getD, length, length-set}
 use Rattle.zone.specs.Cells.{unbounded, atMostZero, tighter?, tighterOf, sum, negative?}
 use Rattle.zone.specs.Squares.{
   cell,
+  listOf,
   squareOf,
   met,
   passed,
@@ -143,6 +144,20 @@ table-reached y z =
 pub source-lt : (mask i : ℕ) → i < 5 → source mask i < 5
 unfolding source renamed
 source-lt mask i h = renamed-lt (masked? mask) i h
+
+-- what a list of the five sources holds
+pub sources-at : (mask : ℕ) {from : List ℕ} → from ≡ listOf (source mask) 5 0 → (i : ℕ) → i < 5 →
+    (getD from i 0 ≡ source mask i) × (getD from i 0 < 5)
+sources-at mask {from} e i h =
+    let q : getD from i 0 ≡ source mask i = rw e (listOf-at 0 (source mask) 5 i h) in
+    (q, omega (arith, source-lt mask i h))
+
+-- those of the two clocks of a cell are clocks
+abbrev pub AreClocks : List ℕ → ℕ → Type 0
+AreClocks from p = (getD from (p / 5) 0 < 5) × (getD from (p % 5) 0 < 5)
+
+pub sources-lt : (mask : ℕ) {from : List ℕ} → from ≡ listOf (source mask) 5 0 → (p : ℕ) → p < 25 → AreClocks from p
+sources-lt mask e p h = (sources-at mask e (p / 5) (omega arith) .1, sources-at mask e (p % 5) (omega arith) .1)
 
 pub table-reset : (mask : ℕ) (z : Square) (i j : ℕ) → i < 5 → j < 5 → tableOf (resetSquare mask z) i j ≡ tableOf z (source mask i) (source mask j)
 table-reset mask z i j hi hj =

@@ -14,8 +14,9 @@ atMostZero = record { d = pos 0; strict = false; finite = true }
 unfoldable pub tighter? : Cell → Cell → Bool
 tighter? a b = a .finite && (not (b .finite) || (ltZ (a .d) (b .d) || (not (ltZ (b .d) (a .d)) && (a .strict && not (b .strict)))))
 
+-- the first where neither is tighter
 unfoldable pub tighterOf : Cell → Cell → Cell
-tighterOf a b = cond (tighter? a b) a b
+tighterOf a b = cond (tighter? b a) b a
 
 -- what a bound of clock i minus clock m and one of clock m minus clock j give for clock i minus clock j
 unfoldable pub sum : Cell → Cell → Cell

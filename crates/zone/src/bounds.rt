@@ -38,10 +38,11 @@ impl Bound {
         self.finite & (!other.finite | ((gap < 0) | ((gap == 0) & (self.strict & !other.strict))))
     }
 
-    pub(crate) fn tighter_of(self, other: Bound) -> Bound
+    // The tighter of the two, the first where neither is.
+    pub fn tighter_of(self, other: Bound) -> Bound
         ensures { λ r. ⌜ r ≡ tighterOf self other ⌝ }
     {
-        if self.tighter(other) { self } else { other }
+        if other.tighter(self) { other } else { self }
     }
 
     // What a bound of clock i minus clock m and one of clock m minus clock j give for clock i minus clock j: strict if either is.

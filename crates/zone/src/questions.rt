@@ -51,7 +51,9 @@ pub(crate) fn read_zone(clocks: u32, list: &[u32]) -> ZoneRead
                 zone: zone,
             };
         }
-        zone = words::with_word(zone, word);
+        let p = words::cell_of(word);
+        let old = zone.cells[p];
+        zone.cells[p] = old.tighter_of(words::bound_of(word));
     }
     ZoneRead {
         good: true,

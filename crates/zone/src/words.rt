@@ -1,9 +1,8 @@
 ghost use mathlib.Core.Path.{_≡_};
 ghost use Rattle.zone.specs.Words.{kind, boundOf, boundFields?, goodBound?};
-ghost use Prim.Native.Nat.{_<_};
-ghost use Rattle.zone.specs.Reading.{cellOf, withWord};
+ghost use Prim.Native.Nat.{_+_, _*_};
+ghost use Rattle.zone.specs.Reading.{cellOf};
 use crate::bounds::Bound;
-use crate::zones::Zone;
 
 // The top four bits of a word.
 pub fn kind_of(word: u32) -> u32
@@ -24,6 +23,13 @@ pub fn second_clock(word: u32) -> u32
     ensures { λ r. ⌜ r ≡ boundOf word .j ⌝ }
 {
     word / 0x10_0000 % 0x10
+}
+
+// Where the bound of a bound word stands in a zone's table.
+pub fn cell_of(word: u32) -> usize
+    ensures { λ r. ⌜ r ≡ boundOf word .i * 5 + boundOf word .j ⌝ }
+{
+    first_clock(word) as usize * 5 + second_clock(word) as usize
 }
 
 // The bound of a bound word.
@@ -51,16 +57,4 @@ pub fn good_bound(clocks: u32, word: u32) -> bool
     ensures { λ r. ⌜ r ≡ goodBound? clocks word ⌝ }
 {
     (kind_of(word) == 5) & bound_fields(clocks, word)
-}
-
-// The zone where the bound of a bound word holds too.
-pub fn with_word(zone: Zone, word: u32) -> Zone
-    requires { ⌜ (boundOf word .i < 5) × (boundOf word .j < 5) ⌝ }
-    ensures { λ r. ⌜ r ≡ withWord word zone ⌝ }
-{
-    zone.with_bound(
-        first_clock(word) as usize,
-        second_clock(word) as usize,
-        bound_of(word),
-    )
 }

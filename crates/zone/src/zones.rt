@@ -1,8 +1,8 @@
 ghost use mathlib.Core.Path.{_≡_};
 ghost use Prim.Native.Nat.{_<_, _^_};
 ghost use Rattle.zone.specs.Moves.{masked?};
-ghost use Rattle.zone.specs.Squares.{universe, withBound, met, passed, tightened, delayedSquare, source, resetSquare, beforeReset};
-ghost use Rattle.zone.specs.Squares.{empty?, inside?, Small};
+ghost use Rattle.zone.specs.Squares.{universe, met, tightened, delayedSquare, source, resetSquare, beforeReset};
+ghost use Rattle.zone.specs.Squares.{listOf, empty?, inside?, Small};
 use crate::bounds::Bound;
 
 // A zone as a square table of bounds, five clocks by five (a difference bound matrix): cell i * 5 + j bounds clock i minus clock j.
@@ -34,6 +34,19 @@ pub(crate) fn source_of(mask: u32, clock: usize) -> usize
     if masked(mask, clock) { 0 } else { clock }
 }
 
+// The sources of the five clocks.
+pub(crate) fn sources(mask: u32) -> [usize; 5]
+    ensures { λ r. ⌜ r ≡ listOf (source mask) 5 0 ⌝ }
+{
+    [
+        source_of(mask, 0),
+        source_of(mask, 1),
+        source_of(mask, 2),
+        source_of(mask, 3),
+        source_of(mask, 4),
+    ]
+}
+
 impl Zone {
     // Every valuation.
     pub fn universe() -> Zone
@@ -48,53 +61,41 @@ impl Zone {
         Zone { cells: cells }
     }
 
-    // The zone where the bound of clock i minus clock j holds too.
-    pub(crate) fn with_bound(self, i: usize, j: usize, bound: Bound) -> Zone
-        requires { ⌜ (i < 5) × (j < 5) ⌝ }
-        ensures { λ r. ⌜ r ≡ withBound i j bound self ⌝ }
-    {
-        let mut out = self;
-        let old = self.cells[i * 5 + j];
-        out.cells[i * 5 + j] = old.tighter_of(bound);
-        out
-    }
-
     // The valuations of both.
     pub fn meet(self, other: Zone) -> Zone
         ensures { λ r. ⌜ r ≡ met self other ⌝ }
     {
         let mut out = self;
         for p in 0..25 {
-            let a = self.cells[p];
             let b = other.cells[p];
-            out.cells[p] = a.tighter_of(b);
+            if b.tighter(self.cells[p]) {
+                out.cells[p] = b;
+            }
         }
         out
     }
 
-    // Every bound made at least as tight as the sum of the two through clock m.
-    pub(crate) fn pass(self, m: usize) -> Zone
-        requires { ⌜ (m < 5) × Small (2 ^ 30) self ⌝ }
-        ensures { λ r. ⌜ r ≡ passed m self ⌝ }
-    {
-        let mut out = self;
-        for p in 0..25 {
-            let direct = self.cells[p];
-            let into = self.cells[p / 5 * 5 + m];
-            let onward = self.cells[m * 5 + p % 5];
-            out.cells[p] = direct.tighter_of(into.sum(onward));
-        }
-        out
-    }
-
-    // The same valuations, every bound as tight as any chain of bounds makes it.
+    // The same valuations, every bound as tight as any chain of bounds makes it: by the algorithm of Floyd and Warshall, a pass for each
+    // clock m. Where clock i has no bound against m, row i stays. A pass reads the old table: in place it would equal the algorithm only
+    // while no diagonal is negative.
     pub fn tighten(self) -> Zone
         requires { ⌜ Small (2 ^ 26) self ⌝ }
         ensures { λ r. ⌜ r ≡ tightened self ⌝ }
     {
         let mut out = self;
         for m in 0..5 {
-            out = out.pass(m);
+            let old = out;
+            for i in 0..5 {
+                let into = old.cells[i * 5 + m];
+                if into.finite {
+                    for j in 0..5 {
+                        let through = into.sum(old.cells[m * 5 + j]);
+                        if through.tighter(old.cells[i * 5 + j]) {
+                            out.cells[i * 5 + j] = through;
+                        }
+                    }
+                }
+            }
         }
         out
     }
@@ -114,11 +115,13 @@ impl Zone {
     pub fn reset(self, mask: u32) -> Zone
         ensures { λ r. ⌜ r ≡ resetSquare mask self ⌝ }
     {
+        let from = sources(mask);
         let mut out = self;
-        for p in 0..25 {
-            let i = source_of(mask, p / 5);
-            let j = source_of(mask, p % 5);
-            out.cells[p] = self.cells[i * 5 + j];
+        for i in 0..5 {
+            let row = from[i] * 5;
+            for j in 0..5 {
+                out.cells[i * 5 + j] = self.cells[row + from[j]];
+            }
         }
         out
     }
@@ -127,11 +130,13 @@ impl Zone {
     pub fn before_reset(self, mask: u32) -> Zone
         ensures { λ r. ⌜ r ≡ beforeReset mask self ⌝ }
     {
+        let from = sources(mask);
         let mut out = Zone::universe();
         for p in 0..25 {
-            let i = source_of(mask, p / 5);
-            let j = source_of(mask, p % 5);
-            out = out.with_bound(i, j, self.cells[p]);
+            let i = from[p / 5];
+            let j = from[p % 5];
+            let old = out.cells[i * 5 + j];
+            out.cells[i * 5 + j] = old.tighter_of(self.cells[p]);
         }
         out
     }
@@ -149,14 +154,16 @@ impl Zone {
         false
     }
 
-    // Of a tightened zone that is not empty: it lies inside the other.
+    // Of a tightened zone that is not empty: it lies inside the other. An absent bound is never tighter, so only finite ones are compared.
     pub fn inside(self, other: Zone) -> bool
         ensures { λ r. ⌜ r ≡ inside? self other ⌝ }
     {
         for p in 0..25 {
             let outer = other.cells[p];
-            if outer.tighter(self.cells[p]) {
-                return false;
+            if outer.finite {
+                if outer.tighter(self.cells[p]) {
+                    return false;
+                }
             }
         }
         true

@@ -4,31 +4,37 @@ use native.Mathlib.Omega.{arith}
 use borrow.Author.Needs.{needs}
 use lib.ListN.{length}
 use Rattle.zone.specs.Squares.{universe}
-use Rattle.zone.proofs.Loops.{listOf-length, Filled, unfilled, stored, all-filled}
+use Rattle.zone.proofs.Loops.{Filled, unfilled, stored}
 use Rattle.judge.specs.Reaching.{withLandings, enabledSquare, enabledSquares}
-use Rattle.judge.proofs.LandingLaws.{landings-begin, landings-go, landings-end, enabled-at}
+use Rattle.judge.proofs.LandingLaws.{landings-begin, landings-go, landings-end, enabled-at, enabled-end}
 use Rattle.judge.proofs.reaching.enabled_zones.Statement.{statement}
 use Rattle.judge.proofs.reaching.enabled_zones.Tie as tie
 
 abbrev Inv-loop2 : tie.InvT-loop2
-Inv-loop2 index zones enabled a zone₀ e₀ e-end zone e =
+Inv-loop2 index zones enabled locations a zone₀ e₀ a-end e-end zone e =
     (e-end ≤ 128) × (enabledSquare index zones a ≡ withLandings zones (index .words) (e-end - e) e zone)
 
 abbrev μ-loop2 : tie.MeasureT-loop2
-μ-loop2 index zones enabled a zone₀ e₀ e-end zone e = e-end - e
+μ-loop2 index zones enabled locations a zone₀ e₀ a-end e-end zone e = e-end - e
 
 abbrev Inv-loop : tie.InvT-loop
-Inv-loop index zones enabled₀ a₀ enabled a =
-    (a ≤ 32) × Filled universe 32 (enabledSquares index zones) enabled₀ a enabled
+Inv-loop index zones enabled₀ locations a₀ a-end enabled a =
+    (a ≤ a-end) × (a-end ≤ 32) × Filled universe 32 (enabledSquares index zones) enabled₀ a enabled
 
 abbrev μ-loop : tie.MeasureT-loop
-μ-loop index zones enabled₀ a₀ enabled a = 32 - a
+μ-loop index zones enabled₀ locations a₀ a-end enabled a = a-end - a
 
 universe-requires : tie.Need-universe-requires Inv-loop2 μ-loop2 Inv-loop μ-loop
 universe-requires c κs = search needs
 
+mul-a-end : tie.Need-mul-a-end Inv-loop2 μ-loop2 Inv-loop μ-loop
+mul-a-end c = let few = c .before .pre .locations in omega arith
+
+element-copy-out-a-end : tie.Need-element-copy-out-a-end Inv-loop2 μ-loop2 Inv-loop μ-loop
+element-copy-out-a-end c = let few = c .before .pre .locations in omega arith
+
 loop-holds : tie.Need-loop-holds Inv-loop2 μ-loop2 Inv-loop μ-loop
-loop-holds c = (omega arith, unfilled refl)
+loop-holds c = (omega arith, c .before .before .pre .actions, unfilled refl)
 
 add-zone : tie.Need-add-zone Inv-loop2 μ-loop2 Inv-loop μ-loop
 add-zone c = search needs
@@ -56,10 +62,10 @@ element-copy-out-e-end c = search needs
 
 loop2-holds : tie.Need-loop2-holds Inv-loop2 μ-loop2 Inv-loop μ-loop
 loop2-holds c =
-    let start = c .before .before .before .before .before .before in
+    let start = c .before .before .before .before .before .before .before in
     let turn = c .before .before .before .before .loop in
     let sized : length (start .args .t2) ≡ 49 = search needs in
-    (start .pre .at (turn .a + 1), landings-begin _ _ (turn .a) sized (omega arith))
+    (start .pre .edges .at (turn .a + 1), landings-begin _ _ (turn .a) sized (omega arith))
 
 mul-edge : tie.Need-mul-edge Inv-loop2 μ-loop2 Inv-loop μ-loop
 mul-edge c = search needs
@@ -96,7 +102,7 @@ loop2-less c = search needs
 
 loop2-again : tie.Need-loop2-again Inv-loop2 μ-loop2 Inv-loop μ-loop
 loop2-again c =
-    let start = c .before .before .before .before .before .before .before .before .before .before .before .before .before .before in
+    let start = c .before .before .before .before .before .before .before .before .before .before .before .before .before .before .before in
     let turn = c .before .before .before .before .before .before .before .loop2 in
     let sized : length (start .args .t2) ≡ 49 = search needs in
     let lands = c .before .before .before .before .lands-at .ensures in (
@@ -122,13 +128,14 @@ loop-again c =
     let turn = c .before .before .before .before .before .before .loop in
     let edge = c .before .loop2 in (
       omega arith,
-      stored (turn .inv .1) (edge .zone) (omega arith)
-          (sym (enabled-at _ _ (turn .a) (omega arith) ∙ landings-end _ _ _ (edge .e) (edge .zone) (edge .inv .1) (c .loop2-test .left))),
+      turn .inv .1,
+      stored (turn .inv .2) (edge .zone) (omega arith)
+          (sym (enabled-at _ _ (turn .a) (omega arith) (omega arith)
+          ∙ landings-end _ _ _ (edge .e) (edge .zone) (edge .inv .1) (c .loop2-test .left))),
     )
 
 returns : tie.Need-returns Inv-loop2 μ-loop2 Inv-loop μ-loop
-unfolding enabledSquares
-returns c = all-filled (c .before .loop .inv .1) (listOf-length _ 32 0) (c .loop-test .left)
+returns c = let turn = c .before in enabled-end _ _ (turn .before .before .universe .ensures) (turn .loop .inv .2) (omega arith) (c .loop-test .left)
 
 pub enabled-zones-spec : {M : Type 1} → statement M
 enabled-zones-spec =
@@ -139,6 +146,8 @@ enabled-zones-spec =
     Inv-loop
     μ-loop
     universe-requires
+    mul-a-end
+    element-copy-out-a-end
     loop-holds
     add-zone
     mul-zone

@@ -15,7 +15,7 @@ use Rattle.judge.proofs.Answering.{
   with-demands,
   model-refused,
   fits,
-  edges-fit,
+  all-fit,
   words-refused,
   asked,
   node-refused,
@@ -101,7 +101,7 @@ returns-2 c =
     (λ q. miss (1 ∷ 2 ∷ 3 ∷ 4 ∷ []) 0 tt (rw q at (c .before .match2 .keys2))))
 
 enabled-zones-requires : tie.Need-enabled-zones-requires
-enabled-zones-requires c κs = edges-fit _ _ (model-accepted (told (c .before)))
+enabled-zones-requires c κs = all-fit _ _ (model-accepted (told (c .before)))
 
 walk-requires : tie.Need-walk-requires
 walk-requires c κs =

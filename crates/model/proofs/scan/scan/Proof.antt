@@ -1,4 +1,4 @@
-use Prim.Native.Nat.{ℕ, _≤_, _-_}
+use Prim.Native.Nat.{ℕ, _≤_, _<_, _-_}
 use mathlib.Core.Path.{_≡_, refl, sym, ap, _∙_}
 use mathlib.Core.Logic.{⊎-elim}
 use mathlib.Core.List.{[], _∷_}
@@ -7,27 +7,31 @@ use borrow.Author.Tests.{eq-eqb}
 use borrow.Author.Needs.{needs}
 use types.Run.{miss}
 use lib.ListN.{length, drop, replicate, getD, set}
+use lib.Seq.{set-getD}
 use Rattle.zone.specs.Words.{kind}
+use Rattle.zone.specs.Squares.{all?}
 use Rattle.model.specs.Kinds.{location, action, edge, bound}
-use Rattle.model.specs.Scan.{WithinLimits, faultAt}
-use Rattle.model.specs.Index.{indexWithKind, indexWith, zonesWith, scanFrom, scanned}
+use Rattle.model.specs.Grammar.{follows, tableFollows, numbered?, mayFollow?, follows?, tableFollows?}
+use Rattle.model.specs.Scan.{WithinLimits, faultAt, seenWithKind}
+use Rattle.model.specs.Index.{indexWithKind, indexWith, scanFrom, scanned}
 use Rattle.model.specs.declared.seen.Fault.the-variants as fault
-use Rattle.model.proofs.Limits.{limits-nothing, room-location, room-edge, bound-first, bound-second}
-use Rattle.model.proofs.ScanLaws.{part-step, index-step, index-stays, zones-bound, zones-stay, scan-end, scan-stop, scan-go}
+use Rattle.model.proofs.KindLaws.{FollowsTable, model-looked-up}
+use Rattle.model.proofs.Limits.{limits-nothing, limits-with, room-location, room-edge, bound-cell}
+use Rattle.model.proofs.ScanLaws.{seen-step, index-step, index-stays, noZone, zones-bound, zones-stay, scan-end, scan-stop, scan-go}
 use Rattle.model.proofs.scan.scan.Statement.{statement}
 use Rattle.model.proofs.scan.scan.Tie as tie
 
 abbrev Inv-loop : tie.InvT-loop
-Inv-loop list seen₀ index₀ zones₀ at₀ at-end seen index zones at =
-    (at ≤ length list) × WithinLimits seen × (length zones ≡ 49)
-    × (scanned list ≡ scanFrom seen index zones at (drop at list))
+Inv-loop list seen₀ index₀ zones₀ current₀ follows at₀ at-end seen index zones current at =
+    (at ≤ length list) × WithinLimits seen × (length (set zones (seen .slot) current) ≡ 49)
+    × (scanned list ≡ scanFrom seen index (set zones (seen .slot) current) at (drop at list)) × FollowsTable follows
 
 abbrev μ-loop : tie.MeasureT-loop
-μ-loop list seen₀ index₀ zones₀ at₀ at-end seen index zones at = length list - at
+μ-loop list seen₀ index₀ zones₀ current₀ follows at₀ at-end seen index zones current at = length list - at
 
 -- past a word's check: the turn of the loop and the word
 abbrev turn : tie.After-fault Inv-loop μ-loop → tie.At-loop Inv-loop μ-loop
-turn c = c .before .before .before
+turn c = c .before .before .before .before .before .before
 
 abbrev word : tie.After-fault Inv-loop μ-loop → ℕ
 word c = getD (turn c .before .before .before .args .list .now) (turn c .loop .at) 0
@@ -37,56 +41,60 @@ faulty : (c : tie.At-match-keys2 Inv-loop μ-loop) → c .before .fault .result 
 faulty c q = miss (1 ∷ 2 ∷ 3 ∷ 4 ∷ []) 0 tt (rw q at (c .match .keys2))
 
 -- it has none: the turn of the loop, and the word's kind
-abbrev checked : tie.After-kind-of Inv-loop μ-loop → tie.After-fault Inv-loop μ-loop
-checked c = c .before .before .before
+abbrev checked : tie.After-enum-told Inv-loop μ-loop → tie.After-fault Inv-loop μ-loop
+checked c = c .before .before
 
-within : (c : tie.After-kind-of Inv-loop μ-loop) → WithinLimits (turn (checked c) .loop .seen)
+abbrev read : tie.After-enum-told Inv-loop μ-loop → tie.After-kind-of Inv-loop μ-loop
+read c = checked c .before .before .before
+
+within : (c : tie.After-enum-told Inv-loop μ-loop) → WithinLimits (turn (checked c) .loop .seen)
 within c = turn (checked c) .loop .inv .1
 
-sound : (c : tie.After-kind-of Inv-loop μ-loop) → faultAt (turn (checked c) .loop .seen) (word (checked c)) ≡ fault.None
-sound c = sym (checked c .fault .ensures) ∙ c .before .enum-told .given .1
+sound : (c : tie.After-enum-told Inv-loop μ-loop) → faultAt (turn (checked c) .loop .seen) (word (checked c)) ≡ fault.None
+sound c = sym (checked c .fault .ensures) ∙ c .enum-told .given .1
 
-named : (c : tie.After-kind-of Inv-loop μ-loop) (n : ℕ) → c .kind-of .result ≡ n → kind (word (checked c)) ≡ n
-named c n e = sym (c .kind-of .ensures) ∙ e
+named : (c : tie.After-enum-told Inv-loop μ-loop) (n : ℕ) → read c .kind-of .result ≡ n → kind (word (checked c)) ≡ n
+named c n e = sym (read c .kind-of .ensures) ∙ e
 
-other : (c : tie.After-kind-of Inv-loop μ-loop) (n : ℕ) → (c .kind-of .result ≡ n → ⊥) → kind (word (checked c)) ≡ n → ⊥
-other c n h q = h (c .kind-of .ensures ∙ q)
+other : (c : tie.After-enum-told Inv-loop μ-loop) (n : ℕ) → (read c .kind-of .result ≡ n → ⊥) → kind (word (checked c)) ≡ n → ⊥
+other c n h q = h (read c .kind-of .ensures ∙ q)
 
--- where the kinds meet: the index and the zones with the word
+-- a bound's cell is in the table
+in-table : (c : tie.After-cell-of Inv-loop μ-loop) → c .cell-of .result < 25
+in-table c =
+    let k = c .before .before in
+    rw (c .cell-of .ensures) (bound-cell _ _ (within k) (sound k) (eq-eqb _ _ (named k 5 (c .before .if1 .taken))))
+
+-- where the other kinds meet: the index with the word
 joined :
-    (c : tie.At-match2-came Inv-loop μ-loop) → let here = turn (checked (c .before)) .loop in let w = word (checked (c .before)) in
-    (c .match2 .index ≡ indexWith (here .seen) w (here .at) (here .index)) × (c .match2 .zones ≡ zonesWith (here .seen) w (here .zones))
+    (c : tie.At-match2-came Inv-loop μ-loop) → let checked = checked (c .before .before) in
+    c .match2 .index ≡ indexWith (turn checked .loop .seen) (word checked) (turn checked .loop .at) (turn checked .loop .index)
 unfolding indexWithKind
 joined c =
-    let k = c .before in
-    let here = turn (checked k) .loop in
+    let k = c .before .before in
     ⊎-elim
-    (λ w. part-step _ _ _ _ _ location (named k 2 (w .0 .keys1)) refl (rw (← w .1 .ensures) (w .2)) (w .3))
+    (λ w. rw (← w .1 .ensures) (w .2) ∙ index-step _ _ _ _ location (named k 2 (w .0 .keys1)))
     (⊎-elim
-    (λ w. part-step _ _ _ _ _ action (named k 3 (w .0 .keys2)) refl (w .1) (w .2))
+    (λ w. w .1 ∙ index-step _ _ _ _ action (named k 3 (w .0 .keys2)))
     (⊎-elim
-    (λ w. part-step _ _ _ _ _ edge (named k 4 (w .0 .keys3)) refl (w .1) (w .2))
-    (⊎-elim
+    (λ w. w .1 ∙ index-step _ _ _ _ edge (named k 4 (w .0 .keys3)))
     (λ w.
-    let e = named k 5 (w .0 .keys4) in (
-      w .3 ∙ index-step _ _ _ _ bound e,
-      w .4 ∙ ap (set (here .zones) (here .seen .slot)) (w .2 .ensures) ∙ zones-bound _ _ _ e (rw (here .inv .2) (within k .slot)),
-    ))
-    (λ w.
-    let r = w .0 .rest in (
-      w .1 ∙ index-stays _ _ _ _ (other k 2 (r .0 .0 .0 .1)) (other k 3 (r .0 .0 .1)) (other k 4 (r .0 .1)),
-      w .2 ∙ zones-stay _ _ _ (other k 5 (r .1)),
-    )))))
+    let r = w .0 .rest in
+    w .1 ∙ index-stays _ _ _ _ (other k 2 (r .0 .0 .1)) (other k 3 (r .0 .1)) (other k 4 (r .1)))))
     (c .match2 .came)
+
+-- behind it the words are within the limits
+within-next : (c : tie.After-with-word Inv-loop μ-loop) → WithinLimits (c .with-word .result)
+within-next c = let k = c .before .before .before in rw (c .with-word .ensures) (limits-with _ _ _ (within k) (sound k))
 
 universe-requires : tie.Need-universe-requires Inv-loop μ-loop
 universe-requires c κs = search needs
 
 loop-holds : tie.Need-loop-holds Inv-loop μ-loop
-unfolding scanned
+unfolding scanned follows tableFollows numbered? mayFollow? follows? tableFollows? all?
 loop-holds c =
     let words = c .before .before .args .list .now in
-    (omega arith, limits-nothing, refl, ap (λ u. scanFrom _ _ (replicate 49 u) 0 words) (sym (c .universe .ensures)))
+    (omega arith, limits-nothing, refl, ap (λ u. scanFrom _ _ (replicate 49 u) 0 words) (sym (c .universe .ensures)), record { rule = refl })
 
 mul-word : tie.Need-mul-word Inv-loop μ-loop
 mul-word c = search needs
@@ -94,11 +102,40 @@ mul-word c = search needs
 shared-slice-read-word : tie.Need-shared-slice-read-word Inv-loop μ-loop
 shared-slice-read-word c = search needs
 
+kind-of-requires : tie.Need-kind-of-requires Inv-loop μ-loop
+kind-of-requires c κs = search needs
+
+cast-allowed : tie.Need-cast-allowed Inv-loop μ-loop
+cast-allowed c = search needs
+
+cast-allowed-2 : tie.Need-cast-allowed-2 Inv-loop μ-loop
+cast-allowed-2 c = search needs
+
+mul-allowed : tie.Need-mul-allowed Inv-loop μ-loop
+mul-allowed c = search needs
+
+index-1-allowed : tie.Need-index-1-allowed Inv-loop μ-loop
+index-1-allowed c = search needs
+
+index-2-allowed : tie.Need-index-2-allowed Inv-loop μ-loop
+index-2-allowed c = search needs
+
+-- what the constant table says of the word
 fault-requires : tie.Need-fault-requires Inv-loop μ-loop
-fault-requires c κs = search needs
+fault-requires c κs =
+    let read = c .before .before in
+    let here = read .before .before .before .loop in
+    let few : read .kind-of .result < 16 = search needs in
+    (here .inv .1, model-looked-up (here .inv .4) few (here .inv .1 .opener) ∙ ap (follows? (here .seen .opener)) (read .kind-of .ensures))
 
 enum-told : tie.Need-enum-told Inv-loop μ-loop
 enum-told c = search needs
+
+mul-zones : tie.Need-mul-zones Inv-loop μ-loop
+mul-zones c = search needs
+
+array-set-from-zones : tie.Need-array-set-from-zones Inv-loop μ-loop
+array-set-from-zones c = search needs
 
 at-requires : tie.Need-at-requires Inv-loop μ-loop
 at-requires c κs = search needs
@@ -106,18 +143,63 @@ at-requires c κs = search needs
 returns : tie.Need-returns Inv-loop μ-loop
 returns c =
     let told = c .before in
-    let here = turn (told .before) .loop in
-    c .at .ensures ∙ scan-stop _ (here .at) _ _ _ (omega arith) _ (told .before .fault .ensures) (faulty told) ∙ sym (here .inv .3)
+    let checked = told .before in
+    let here = turn checked .loop in
+    c .at .ensures ∙ scan-stop _ (here .at) _ _ _ (omega arith) _ (checked .fault .ensures) (faulty told) ∙ sym (here .inv .3)
 
-kind-of-requires : tie.Need-kind-of-requires Inv-loop μ-loop
-kind-of-requires c κs = search needs
+cell-of-requires : tie.Need-cell-of-requires Inv-loop μ-loop
+cell-of-requires c κs = search needs
+
+mul-old : tie.Need-mul-old Inv-loop μ-loop
+mul-old c = let h = in-table c in search needs
+
+element-copy-out-old : tie.Need-element-copy-out-old Inv-loop μ-loop
+element-copy-out-old c = in-table c
+
+bound-of-requires : tie.Need-bound-of-requires Inv-loop μ-loop
+bound-of-requires c κs = search needs
+
+tighter-of-requires : tie.Need-tighter-of-requires Inv-loop μ-loop
+tighter-of-requires c κs = search needs
+
+mul-t62 : tie.Need-mul-t62 Inv-loop μ-loop
+mul-t62 c = let h = in-table (c .before .before .before) in search needs
+
+element-set-from-current : tie.Need-element-set-from-current Inv-loop μ-loop
+element-set-from-current c = in-table (c .before .before .before)
+
+add-at : tie.Need-add-at Inv-loop μ-loop
+add-at c = search needs
+
+loop-less : tie.Need-loop-less Inv-loop μ-loop
+loop-less c = search needs
+
+loop-again : tie.Need-loop-again Inv-loop μ-loop
+unfolding seenWithKind indexWithKind
+loop-again c =
+    let cell = c .before .before .before in
+    let k = cell .before .before in
+    let here = turn (checked k) .loop in
+    let inv = here .inv in
+    let e = named k 5 (cell .before .if1 .taken) in
+    let go =
+    scan-go _ _ _ _ _ (omega arith) (inv .1) (inv .2) (inv .3) (sound k) (seen-step _ _ _ bound e) (index-step _ _ _ _ bound e)
+    (zones-bound (here .seen) _ (here .zones) (here .current) _ _ e (rw (inv .2) (inv .1 .slot))
+    (cell .cell-of .ensures) (c .before .bound-of .ensures) (c .tighter-of .ensures)) in
+    (go .0, go .1, go .2, go .3, inv .4)
+
+mul-zones-2 : tie.Need-mul-zones-2 Inv-loop μ-loop
+mul-zones-2 c = search needs
+
+array-set-from-zones-2 : tie.Need-array-set-from-zones-2 Inv-loop μ-loop
+array-set-from-zones-2 c = search needs
 
 is-target-requires : tie.Need-is-target-requires Inv-loop μ-loop
 is-target-requires c κs = search needs
 
 element-write-index : tie.Need-element-write-index Inv-loop μ-loop
 element-write-index c =
-    let k = c .before .before in
+    let k = c .before .before .before in
     room-location _ _ (within k) (sound k) (named k 2 (c .before .match2 .keys1))
 
 mul-index : tie.Need-mul-index Inv-loop μ-loop
@@ -132,47 +214,44 @@ mul-index-2 c = search needs
 element-write-index-3 : tie.Need-element-write-index-3 Inv-loop μ-loop
 element-write-index-3 c = search needs
 
-mul-t39 : tie.Need-mul-t39 Inv-loop μ-loop
-mul-t39 c = search needs
+mul-t82 : tie.Need-mul-t82 Inv-loop μ-loop
+mul-t82 c = search needs
 
 element-set-from-index : tie.Need-element-set-from-index Inv-loop μ-loop
 element-set-from-index c =
-    let k = c .before in
+    let k = c .before .before in
     room-edge _ _ (within k) (sound k) (named k 4 (c .match2 .keys3))
 
-mul-zone : tie.Need-mul-zone Inv-loop μ-loop
-mul-zone c = search needs
-
-array-copy-out-zone : tie.Need-array-copy-out-zone Inv-loop μ-loop
-array-copy-out-zone c = search needs
-
 with-word-requires : tie.Need-with-word-requires Inv-loop μ-loop
-with-word-requires c κs =
-    let k = c .before .before in
-    let is = eq-eqb _ _ (named k 5 (c .before .match2 .keys4)) in
-    (bound-first _ _ (within k) (sound k) is, bound-second _ _ (within k) (sound k) is)
+with-word-requires c κs = search needs
 
-mul-zones : tie.Need-mul-zones Inv-loop μ-loop
-mul-zones c = search needs
+mul-current : tie.Need-mul-current Inv-loop μ-loop
+mul-current c = let h = within-next c in search needs
 
-array-set-from-zones : tie.Need-array-set-from-zones Inv-loop μ-loop
-array-set-from-zones c = search needs
+array-copy-out-current : tie.Need-array-copy-out-current Inv-loop μ-loop
+array-copy-out-current c = let h = within-next c in search needs
 
-with-word-requires-2 : tie.Need-with-word-requires-2 Inv-loop μ-loop
-with-word-requires-2 c κs = search needs
+add-at-2 : tie.Need-add-at-2 Inv-loop μ-loop
+add-at-2 c = search needs
 
-add-at : tie.Need-add-at Inv-loop μ-loop
-add-at c = search needs
+loop-less-2 : tie.Need-loop-less-2 Inv-loop μ-loop
+loop-less-2 c = search needs
 
-loop-less : tie.Need-loop-less Inv-loop μ-loop
-loop-less c = search needs
-
-loop-again : tie.Need-loop-again Inv-loop μ-loop
-loop-again c =
-    let k = c .before .before in
+loop-again-2 : tie.Need-loop-again-2 Inv-loop μ-loop
+loop-again-2 c =
+    let met = c .before .before in
+    let k = met .before .before in
     let inv = turn (checked k) .loop .inv in
-    let meet = joined (c .before) in
-    scan-go _ _ _ _ _ (omega arith) (inv .1) (inv .2) (inv .3) (sound k) (c .with-word2 .ensures) (meet .0) (meet .1)
+    let go =
+    scan-go _ _ _ _ _ (omega arith) (inv .1) (inv .2) (inv .3) (sound k) (c .before .with-word .ensures) (joined met)
+    (set-getD _ _ noZone ∙ zones-stay _ _ _ (other k 5 (met .before .if1 .left))) in
+    (go .0, go .1, go .2, go .3, inv .4)
+
+mul-zones-3 : tie.Need-mul-zones-3 Inv-loop μ-loop
+mul-zones-3 c = search needs
+
+array-set-from-zones-3 : tie.Need-array-set-from-zones-3 Inv-loop μ-loop
+array-set-from-zones-3 c = search needs
 
 last-fault-requires : tie.Need-last-fault-requires Inv-loop μ-loop
 last-fault-requires c κs = search needs
@@ -201,28 +280,46 @@ scan-spec =
     loop-holds
     mul-word
     shared-slice-read-word
+    kind-of-requires
+    cast-allowed
+    cast-allowed-2
+    mul-allowed
+    index-1-allowed
+    index-2-allowed
     fault-requires
     enum-told
+    mul-zones
+    array-set-from-zones
     at-requires
     returns
-    kind-of-requires
+    cell-of-requires
+    mul-old
+    element-copy-out-old
+    bound-of-requires
+    tighter-of-requires
+    mul-t62
+    element-set-from-current
+    add-at
+    loop-less
+    loop-again
+    mul-zones-2
+    array-set-from-zones-2
     is-target-requires
     element-write-index
     mul-index
     element-write-index-2
     mul-index-2
     element-write-index-3
-    mul-t39
+    mul-t82
     element-set-from-index
-    mul-zone
-    array-copy-out-zone
     with-word-requires
-    mul-zones
-    array-set-from-zones
-    with-word-requires-2
-    add-at
-    loop-less
-    loop-again
+    mul-current
+    array-copy-out-current
+    add-at-2
+    loop-less-2
+    loop-again-2
+    mul-zones-3
+    array-set-from-zones-3
     last-fault-requires
     closed-requires
     at-requires-2

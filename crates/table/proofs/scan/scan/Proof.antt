@@ -10,30 +10,34 @@ use types.Run.{miss}
 use lib.Dec.{eqb}
 use lib.ListN.{length, drop, replicate, getD, set}
 use Rattle.zone.specs.Words.{kind}
+use Rattle.zone.specs.Cells.{tighterOf}
+use Rattle.zone.specs.Squares.{all?}
 use Rattle.zone.proofs.Bools.{false-true}
-use Rattle.model.specs.TableKinds.{nodeBound}
+use Rattle.model.specs.TableKinds.{node, nodeBound}
+use Rattle.model.specs.Grammar.{follows, tableFollows, numbered?, mayFollow?, follows?, tableFollows?}
 use Rattle.model.specs.declared.index.Index.{Index}
+use Rattle.model.proofs.KindLaws.{FollowsTable, table-looked-up}
 use Rattle.table.specs.Scan.{faultAt, seenWithKind, seenWith, IndexFits, WithinLimits}
-use Rattle.table.specs.Index.{nodesWith, zonesWith, scanFrom, scanned}
+use Rattle.table.specs.Index.{nodesWith, scanFrom, scanned}
 use Rattle.table.specs.declared.seen.Seen.{Seen}
 use Rattle.table.specs.declared.seen.Fault.the-variants as fault
-use Rattle.table.proofs.Limits.{limits-nothing, bound-node, value-node, bound-clocks, successor-edges}
-use Rattle.table.proofs.ScanLaws.{seen-step, value-step, successor-step}
-use Rattle.table.proofs.ScanLaws.{nodes-value, nodes-stay, zones-bound, zones-stay, scan-end, scan-stop, scan-go}
+use Rattle.table.proofs.Limits.{limits-nothing, node-room, value-node, bound-clocks, successor-edges}
+use Rattle.table.proofs.ScanLaws.{seen-step, value-step, successor-step, nodes-value, nodes-stay}
+use Rattle.table.proofs.ScanLaws.{zone-bound, Held, held-bound, held-node, held-other, scan-end, scan-stop, scan-go}
 use Rattle.table.proofs.scan.scan.Statement.{statement}
 use Rattle.table.proofs.scan.scan.Tie as tie
 
 abbrev Inv-loop : tie.InvT-loop
-Inv-loop list index seen₀ nodes₀ zones₀ at₀ at-end seen nodes zones at =
-    (at ≤ length list) × WithinLimits index seen × (length nodes ≡ 64) × (length zones ≡ 64)
-    × (scanned index list ≡ scanFrom index seen nodes zones at (drop at list))
+Inv-loop list index seen₀ nodes₀ current₀ zones₀ n₀ follows at₀ at-end seen nodes current zones n at =
+    (at ≤ length list) × WithinLimits index seen × (length nodes ≡ 64) × (length zones ≡ 64) × (n ≡ seen .nodes - 1)
+    × (scanned index list ≡ scanFrom index seen nodes (set zones n current) at (drop at list)) × FollowsTable follows
 
 abbrev μ-loop : tie.MeasureT-loop
-μ-loop list index seen₀ nodes₀ zones₀ at₀ at-end seen nodes zones at = length list - at
+μ-loop list index seen₀ nodes₀ current₀ zones₀ n₀ follows at₀ at-end seen nodes current zones n at = length list - at
 
 -- past a word's check: the turn of the loop and the word
 abbrev turn : tie.After-fault Inv-loop μ-loop → tie.At-loop Inv-loop μ-loop
-turn c = c .before .before .before
+turn c = c .before .before .before .before .before .before
 
 abbrev began : tie.At-loop Inv-loop μ-loop → tie.Start Inv-loop μ-loop
 began c = c .before .before .before
@@ -46,105 +50,126 @@ faulty : (c : tie.At-match-keys2 Inv-loop μ-loop) → c .before .fault .result 
 faulty c q = miss (1 ∷ 2 ∷ 3 ∷ []) 0 tt (rw q at (c .match .keys2))
 
 -- it has none: the turn of the loop, and the word's kind
-abbrev checked : tie.After-kind-of Inv-loop μ-loop → tie.After-fault Inv-loop μ-loop
-checked c = c .before .before .before
+abbrev checked : tie.After-enum-told Inv-loop μ-loop → tie.After-fault Inv-loop μ-loop
+checked c = c .before .before
 
-abbrev index : tie.After-kind-of Inv-loop μ-loop → Index
+abbrev read : tie.After-enum-told Inv-loop μ-loop → tie.After-kind-of Inv-loop μ-loop
+read c = checked c .before .before .before
+
+abbrev index : tie.After-enum-told Inv-loop μ-loop → Index
 index c = began (turn (checked c)) .args .t1
 
-abbrev seen : tie.After-kind-of Inv-loop μ-loop → Seen
+abbrev seen : tie.After-enum-told Inv-loop μ-loop → Seen
 seen c = turn (checked c) .loop .seen
 
-fits : (c : tie.After-kind-of Inv-loop μ-loop) → IndexFits (index c)
+fits : (c : tie.After-enum-told Inv-loop μ-loop) → IndexFits (index c)
 fits c = began (turn (checked c)) .pre
 
-within : (c : tie.After-kind-of Inv-loop μ-loop) → WithinLimits (index c) (seen c)
+within : (c : tie.After-enum-told Inv-loop μ-loop) → WithinLimits (index c) (seen c)
 within c = turn (checked c) .loop .inv .1
 
-sound : (c : tie.After-kind-of Inv-loop μ-loop) → faultAt (seen c) (index c .clocks) (index c .locations) (word (checked c)) ≡ fault.None
-sound c = sym (checked c .fault .ensures) ∙ c .before .enum-told .given .1
+sound : (c : tie.After-enum-told Inv-loop μ-loop) → faultAt (seen c) (index c .clocks) (index c .locations) (word (checked c)) ≡ fault.None
+sound c = sym (checked c .fault .ensures) ∙ c .enum-told .given .1
 
-named : (c : tie.After-kind-of Inv-loop μ-loop) (n : ℕ) → c .kind-of .result ≡ n → kind (word (checked c)) ≡ n
-named c n e = sym (c .kind-of .ensures) ∙ e
+named : (c : tie.After-enum-told Inv-loop μ-loop) (n : ℕ) → read c .kind-of .result ≡ n → kind (word (checked c)) ≡ n
+named c n e = sym (read c .kind-of .ensures) ∙ e
 
-other : (c : tie.After-kind-of Inv-loop μ-loop) (n : ℕ) → (c .kind-of .result ≡ n → ⊥) → kind (word (checked c)) ≡ n → ⊥
-other c n h q = h (c .kind-of .ensures ∙ q)
+other : (c : tie.After-enum-told Inv-loop μ-loop) (n : ℕ) → (read c .kind-of .result ≡ n → ⊥) → kind (word (checked c)) ≡ n → ⊥
+other c n h q = h (read c .kind-of .ensures ∙ q)
 
-apart : (c : tie.After-kind-of Inv-loop μ-loop) (n m : ℕ) → eqb n m ≡ false → kind (word (checked c)) ≡ n → kind (word (checked c)) ≡ m → ⊥
+apart : (c : tie.After-enum-told Inv-loop μ-loop) (n m : ℕ) → eqb n m ≡ false → kind (word (checked c)) ≡ n → kind (word (checked c)) ≡ m → ⊥
 apart c n m d e q = false-true (sym d ∙ eq-eqb n m (sym e ∙ q))
 
--- the last node is there, and its location is one of the model's
-bounded : (c : tie.At-match2-keys1 Inv-loop μ-loop) → (1 ≤ seen (c .before) .nodes) × (seen (c .before) .nodes ≤ 64)
-bounded c =
-    let k = c .before in
-    (bound-node _ _ _ (fits k) (within k) (sound k) (named k 5 (c .match2 .keys1)) .0, within k .nodes)
+-- the slot of the last node
+slot : (c : tie.At-loop Inv-loop μ-loop) → c .loop .n < 64
+slot c = let most = c .loop .inv .1 .nodes in let e = c .loop .inv .4 in omega arith
 
-slot : (c : tie.At-match2-keys1 Inv-loop μ-loop) → seen (c .before) .nodes - 1 < length (turn (checked (c .before)) .loop .zones)
-slot c = let there = bounded c in let size = turn (checked (c .before)) .loop .inv .3 in omega arith
+-- the cell of a bound
+cell : (c : tie.After-cell-of Inv-loop μ-loop) → c .cell-of .result < 25
+cell c =
+    let k = c .before .before in
+    let clocks = bound-clocks _ _ _ (fits k) (within k) (sound k) (named k 5 (c .before .match2 .keys1)) in
+    let e = c .cell-of .ensures in
+    omega arith
 
-valued :
-    (c : tie.At-match2-keys2 Inv-loop μ-loop) →
-    (1 ≤ seen (c .before) .nodes) × (seen (c .before) .nodes ≤ 64) × (seen (c .before) .location < 16)
+-- there is room for a node
+room : (c : tie.At-match2-keys2 Inv-loop μ-loop) → seen (c .before) .nodes < 64
+room c = let k = c .before in node-room _ _ _ (fits k) (within k) (sound k) (named k 8 (c .match2 .keys2))
+
+-- the location of the last node is one of the model's
+valued : (c : tie.At-match2-keys3 Inv-loop μ-loop) → seen (c .before) .location < 16
 valued c =
     let k = c .before in
-    let there = value-node _ _ _ (fits k) (within k) (sound k) (named k 9 (c .match2 .keys2)) in
+    let there = value-node _ _ _ (fits k) (within k) (sound k) (named k 9 (c .match2 .keys3)) in
     let most = fits k .locations in
-    (there .0, within k .nodes, omega arith)
+    omega arith
 
 -- the row is due
 due :
-    (c : tie.At-match2-keys3 Inv-loop μ-loop) → let x = index (c .before) in let s = seen (c .before) in
+    (c : tie.At-match2-keys4 Inv-loop μ-loop) → let x = index (c .before) in let s = seen (c .before) in
     (getD (x .edges) (s .action) 0 ≤ getD (x .edges) (s .action + 1) 0) × (s .action < 32) × (s .begun < 128)
-due c = let k = c .before in successor-edges _ _ _ (fits k) (within k) (sound k) (named k 11 (c .match2 .keys3))
+due c = let k = c .before in successor-edges _ _ _ (fits k) (within k) (sound k) (named k 11 (c .match2 .keys4))
 
 -- where the kinds meet: what the words come to with the word
 joined :
     (c : tie.At-match2-came Inv-loop μ-loop) → let here = turn (checked (c .before)) .loop in let w = word (checked (c .before)) in
     (c .match2 .seen ≡ seenWith (index (c .before)) (here .seen) w (here .at))
     × (c .match2 .nodes ≡ nodesWith (here .seen) w (here .at) (here .nodes))
-    × (c .match2 .zones ≡ zonesWith (here .seen) w (here .zones))
+    × Held (index (c .before)) (here .seen) w (here .at) (here .zones) (here .n) (here .current)
+    (c .match2 .zones) (c .match2 .n) (c .match2 .current)
 unfolding seenWithKind
 joined c =
     let k = c .before in
     let here = turn (checked k) .loop in
+    let room = here .inv .3 in
+    let slot-is = here .inv .4 in
     ⊎-elim
     (λ w.
-    let e = named k 5 (w .0 .keys1) in (
-      w .4 ∙ seen-step _ _ _ _ nodeBound e,
-      w .5 ∙ nodes-stay _ _ _ _ (apart k 5 9 refl e),
-      w .6 ∙ ap (set (here .zones) (here .seen .nodes - 1)) (w .3 .ensures) ∙ zones-bound _ _ _ e (slot record { before = k; match2 = w .0 }),
+    let e = named k 5 (w .0 .keys1) in
+    let cell-is = w .4 .ensures ∙ ap (tighterOf _) (w .3 .ensures) in (
+      w .5 ∙ seen-step _ _ _ _ nodeBound e,
+      w .6 ∙ nodes-stay _ _ _ _ (apart k 5 9 refl e),
+      held-bound _ _ _ _ _ _ _ room slot-is e (slot (turn (checked k))) (w .8) (w .9) (w .7 ∙ zone-bound _ _ _ _ (w .1 .ensures) cell-is),
     ))
     (⊎-elim
     (λ w.
-    let e = named k 9 (w .0 .keys2) in (
-      w .7 ∙ w .6 .ensures ∙ value-step _ _ _ _ e,
-      w .8 ∙ rw (w .2 .ensures) (nodes-value _ _ _ _ e),
-      w .9 ∙ zones-stay _ _ _ (apart k 9 5 refl e),
+    let e = named k 8 (w .0 .keys2) in (
+      w .3 ∙ w .2 .ensures ∙ seen-step _ _ _ _ node e,
+      w .4 ∙ nodes-stay _ _ _ _ (apart k 8 9 refl e),
+      held-node _ _ _ _ _ _ _ room slot-is e (w .6) (w .7) (w .5),
     ))
     (⊎-elim
     (λ w.
-    let e = named k 11 (w .0 .keys3) in (
+    let e = named k 9 (w .0 .keys3) in (
+      w .6 ∙ w .5 .ensures ∙ value-step _ _ _ _ e,
+      w .7 ∙ rw (w .1 .ensures) (nodes-value _ _ _ _ e slot-is),
+      held-other _ _ _ _ _ _ _ room slot-is (apart k 9 5 refl e) (apart k 9 8 refl e) (w .9) (w .10) (w .8),
+    ))
+    (⊎-elim
+    (λ w.
+    let e = named k 11 (w .0 .keys4) in (
       w .4 ∙ w .3 .ensures ∙ successor-step _ _ _ _ e,
       w .5 ∙ nodes-stay _ _ _ _ (apart k 11 9 refl e),
-      w .6 ∙ zones-stay _ _ _ (apart k 11 5 refl e),
+      held-other _ _ _ _ _ _ _ room slot-is (apart k 11 5 refl e) (apart k 11 8 refl e) (w .7) (w .8) (w .6),
     ))
     (λ w.
     let r = w .0 .rest in (
       w .2 ∙ w .1 .ensures (index k),
       w .3 ∙ nodes-stay _ _ _ _ (other k 9 (r .0 .1)),
-      w .4 ∙ zones-stay _ _ _ (other k 5 (r .0 .0 .1)),
-    ))))
+      held-other _ _ _ _ _ _ _ room slot-is (other k 5 (r .0 .0 .0 .1)) (other k 8 (r .0 .0 .1)) (w .5) (w .6) (w .4),
+    )))))
     (c .match2 .came)
 
 universe-requires : tie.Need-universe-requires Inv-loop μ-loop
 universe-requires c κs = search needs
 
 loop-holds : tie.Need-loop-holds Inv-loop μ-loop
-unfolding scanned
+unfolding scanned follows tableFollows numbered? mayFollow? follows? tableFollows? all?
 loop-holds c =
     let start = c .before .before in
     let words = start .args .list .now in
-    (omega arith, limits-nothing _, refl, refl, ap (λ u. scanFrom (start .args .t1) _ _ (replicate 64 u) 0 words) (sym (c .universe .ensures)))
+    let same = ap (λ u. scanFrom (start .args .t1) _ _ (replicate 64 u) 0 words) (sym (c .universe .ensures)) in
+    (omega arith, limits-nothing _, refl, refl, refl, same, record { rule = refl })
 
 mul-word : tie.Need-mul-word Inv-loop μ-loop
 mul-word c = search needs
@@ -152,11 +177,40 @@ mul-word c = search needs
 shared-slice-read-word : tie.Need-shared-slice-read-word Inv-loop μ-loop
 shared-slice-read-word c = search needs
 
+kind-of-requires : tie.Need-kind-of-requires Inv-loop μ-loop
+kind-of-requires c κs = search needs
+
+cast-allowed : tie.Need-cast-allowed Inv-loop μ-loop
+cast-allowed c = search needs
+
+cast-allowed-2 : tie.Need-cast-allowed-2 Inv-loop μ-loop
+cast-allowed-2 c = search needs
+
+mul-allowed : tie.Need-mul-allowed Inv-loop μ-loop
+mul-allowed c = search needs
+
+index-1-allowed : tie.Need-index-1-allowed Inv-loop μ-loop
+index-1-allowed c = search needs
+
+index-2-allowed : tie.Need-index-2-allowed Inv-loop μ-loop
+index-2-allowed c = search needs
+
+-- what the constant table says of the word
 fault-requires : tie.Need-fault-requires Inv-loop μ-loop
-fault-requires c κs = search needs
+fault-requires c κs =
+    let read = c .before .before in
+    let here = read .before .before .before .loop in
+    let few : read .kind-of .result < 16 = search needs in
+    table-looked-up (here .inv .6) few (here .inv .1 .opener) ∙ ap (tableFollows? (here .seen .opener)) (read .kind-of .ensures)
 
 enum-told : tie.Need-enum-told Inv-loop μ-loop
 enum-told c = search needs
+
+mul-zones : tie.Need-mul-zones Inv-loop μ-loop
+mul-zones c = search needs
+
+array-set-from-zones : tie.Need-array-set-from-zones Inv-loop μ-loop
+array-set-from-zones c = slot (turn (c .before))
 
 at-requires : tie.Need-at-requires Inv-loop μ-loop
 at-requires c κs = search needs
@@ -165,33 +219,43 @@ returns : tie.Need-returns Inv-loop μ-loop
 returns c =
     let told = c .before in
     let here = turn (told .before) .loop in
-    c .at .ensures ∙ scan-stop _ _ (here .at) _ _ _ (omega arith) _ (told .before .fault .ensures) (faulty told) ∙ sym (here .inv .4)
+    c .at .ensures ∙ scan-stop _ _ (here .at) _ _ _ (omega arith) _ (told .before .fault .ensures) (faulty told) ∙ sym (here .inv .5)
 
-kind-of-requires : tie.Need-kind-of-requires Inv-loop μ-loop
-kind-of-requires c κs = search needs
+cell-of-requires : tie.Need-cell-of-requires Inv-loop μ-loop
+cell-of-requires c κs = search needs
 
-sub-n : tie.Need-sub-n Inv-loop μ-loop
-sub-n c = let there = bounded (c .before) in omega arith
+mul-old : tie.Need-mul-old Inv-loop μ-loop
+mul-old c = let there = cell (c) in omega arith
 
-mul-zone : tie.Need-mul-zone Inv-loop μ-loop
-mul-zone c = search needs
+element-copy-out-old : tie.Need-element-copy-out-old Inv-loop μ-loop
+element-copy-out-old c = cell c
 
-array-copy-out-zone : tie.Need-array-copy-out-zone Inv-loop μ-loop
-array-copy-out-zone c = search needs
+bound-of-requires : tie.Need-bound-of-requires Inv-loop μ-loop
+bound-of-requires c κs = search needs
 
-with-word-requires : tie.Need-with-word-requires Inv-loop μ-loop
-with-word-requires c κs =
-    let k = c .before .before .before in
-    bound-clocks _ _ _ (fits k) (within k) (sound k) (named k 5 (c .before .before .match2 .keys1))
+tighter-of-requires : tie.Need-tighter-of-requires Inv-loop μ-loop
+tighter-of-requires c κs = search needs
 
-mul-zones : tie.Need-mul-zones Inv-loop μ-loop
-mul-zones c = search needs
+mul-t57 : tie.Need-mul-t57 Inv-loop μ-loop
+mul-t57 c = let there = cell (c .before .before .before) in omega arith
 
-array-set-from-zones : tie.Need-array-set-from-zones Inv-loop μ-loop
-array-set-from-zones c = search needs
+element-set-from-current : tie.Need-element-set-from-current Inv-loop μ-loop
+element-set-from-current c = cell (c .before .before .before)
 
-sub-n-2 : tie.Need-sub-n-2 Inv-loop μ-loop
-sub-n-2 c = let there = valued (c .before) in omega arith
+mul-zones-2 : tie.Need-mul-zones-2 Inv-loop μ-loop
+mul-zones-2 c = search needs
+
+array-set-from-zones-2 : tie.Need-array-set-from-zones-2 Inv-loop μ-loop
+array-set-from-zones-2 c = slot (turn (checked (c .before)))
+
+mul-current : tie.Need-mul-current Inv-loop μ-loop
+mul-current c = search needs
+
+array-copy-out-current : tie.Need-array-copy-out-current Inv-loop μ-loop
+array-copy-out-current c = room c
+
+with-node-requires : tie.Need-with-node-requires Inv-loop μ-loop
+with-node-requires c κs = within (c .before .before) .nodes
 
 of-requires : tie.Need-of-requires Inv-loop μ-loop
 of-requires c κs = search needs
@@ -200,25 +264,25 @@ mul-nodes : tie.Need-mul-nodes Inv-loop μ-loop
 mul-nodes c = search needs
 
 array-set-from-nodes : tie.Need-array-set-from-nodes Inv-loop μ-loop
-array-set-from-nodes c = search needs
+array-set-from-nodes c = slot (turn (checked (c .before .before)))
 
 element-copy-out-with-value : tie.Need-element-copy-out-with-value Inv-loop μ-loop
-element-copy-out-with-value c = let there = valued (c .before .before) in omega arith
+element-copy-out-with-value c = let there = valued (c .before) in omega arith
 
 mul-with-value : tie.Need-mul-with-value Inv-loop μ-loop
-mul-with-value c = let there = valued (c .before .before .before) in omega arith
+mul-with-value c = let there = valued (c .before .before) in omega arith
 
 element-copy-out-with-value-2 : tie.Need-element-copy-out-with-value-2 Inv-loop μ-loop
-element-copy-out-with-value-2 c = let there = valued (c .before .before .before) in omega arith
+element-copy-out-with-value-2 c = let there = valued (c .before .before) in omega arith
 
 add-with-value : tie.Need-add-with-value Inv-loop μ-loop
-add-with-value c = let there = valued (c .before .before .before .before) in omega arith
+add-with-value c = let there = valued (c .before .before .before) in omega arith
 
 mul-with-value-2 : tie.Need-mul-with-value-2 Inv-loop μ-loop
-mul-with-value-2 c = let there = valued (c .before .before .before .before) in omega arith
+mul-with-value-2 c = let there = valued (c .before .before .before) in omega arith
 
 element-copy-out-with-value-3 : tie.Need-element-copy-out-with-value-3 Inv-loop μ-loop
-element-copy-out-with-value-3 c = let there = valued (c .before .before .before .before) in omega arith
+element-copy-out-with-value-3 c = let there = valued (c .before .before .before) in omega arith
 
 with-value-requires : tie.Need-with-value-requires Inv-loop μ-loop
 with-value-requires c κs = search needs
@@ -244,8 +308,8 @@ sub-with-successor c = let row = due (c .before .before) in row .0
 with-successor-requires : tie.Need-with-successor-requires Inv-loop μ-loop
 with-successor-requires c κs = let row = due (c .before .before) in (omega arith, row .2)
 
-with-word-requires-2 : tie.Need-with-word-requires-2 Inv-loop μ-loop
-with-word-requires-2 c κs =
+with-word-requires : tie.Need-with-word-requires Inv-loop μ-loop
+with-word-requires c κs =
     let k = c .before in
     let r = c .match2 .rest in
     let most = within k .action in
@@ -262,7 +326,15 @@ loop-again : tie.Need-loop-again Inv-loop μ-loop
 loop-again c =
     let k = c .before in
     let inv = turn (checked k) .loop .inv in
-    scan-go _ _ _ _ _ _ (omega arith) (fits k) (inv .1) (inv .2) (inv .3) (inv .4) (sound k) (joined c)
+    let now = joined c in
+    let go = scan-go _ _ _ _ _ _ (omega arith) (fits k) (inv .1) (inv .2) (inv .5) (sound k) (now .0) (now .1) (now .2 .zones) in
+    (go .0, go .1, go .2, now .2 .room, now .2 .slot ∙ ap (λ s. s .nodes - 1) (sym (now .0)), go .3, inv .6)
+
+mul-zones-3 : tie.Need-mul-zones-3 Inv-loop μ-loop
+mul-zones-3 c = search needs
+
+array-set-from-zones-3 : tie.Need-array-set-from-zones-3 Inv-loop μ-loop
+array-set-from-zones-3 c = slot (c .before)
 
 last-fault-requires : tie.Need-last-fault-requires Inv-loop μ-loop
 last-fault-requires c κs = search needs
@@ -276,7 +348,7 @@ returns-2 c =
     let here = last .before .before .loop in
     c .at2 .ensures
     ∙ rw (last .last-fault .ensures)
-    (scan-end _ _ (here .at) _ _ _ (here .inv .0) (last .before .loop-test .left) ∙ sym (here .inv .4))
+    (scan-end _ _ (here .at) _ _ _ (here .inv .0) (last .before .loop-test .left) ∙ sym (here .inv .5))
 
 pub scan-spec : {M : Type 1} → statement M
 scan-spec =
@@ -288,18 +360,30 @@ scan-spec =
     loop-holds
     mul-word
     shared-slice-read-word
+    kind-of-requires
+    cast-allowed
+    cast-allowed-2
+    mul-allowed
+    index-1-allowed
+    index-2-allowed
     fault-requires
     enum-told
-    at-requires
-    returns
-    kind-of-requires
-    sub-n
-    mul-zone
-    array-copy-out-zone
-    with-word-requires
     mul-zones
     array-set-from-zones
-    sub-n-2
+    at-requires
+    returns
+    cell-of-requires
+    mul-old
+    element-copy-out-old
+    bound-of-requires
+    tighter-of-requires
+    mul-t57
+    element-set-from-current
+    mul-zones-2
+    array-set-from-zones-2
+    mul-current
+    array-copy-out-current
+    with-node-requires
     of-requires
     mul-nodes
     array-set-from-nodes
@@ -317,10 +401,12 @@ scan-spec =
     element-copy-out-with-successor-2
     sub-with-successor
     with-successor-requires
-    with-word-requires-2
+    with-word-requires
     add-at
     loop-less
     loop-again
+    mul-zones-3
+    array-set-from-zones-3
     last-fault-requires
     at-requires-2
     returns-2)

@@ -8,7 +8,7 @@ use lib.ListN.{length, drop, getD}
 use Rattle.zone.specs.Words.{goodBound?}
 use Rattle.zone.specs.Squares.{universe}
 use Rattle.zone.specs.Reading.{readFrom, readZone}
-use Rattle.zone.proofs.ReadLaws.{loop-end, loop-bad, loop-good}
+use Rattle.zone.proofs.ReadLaws.{word-put, loop-end, loop-bad, loop-good}
 use Rattle.zone.proofs.WordLaws.{good-first, good-second}
 use Rattle.zone.proofs.questions.read_zone.Statement.{statement}
 use Rattle.zone.proofs.questions.read_zone.Tie as tie
@@ -34,8 +34,12 @@ word c = getD (turn c .before .before .before .args .list .now) (turn c .loop .a
 good : (c : tie.Else1 Inv-loop μ-loop) → goodBound? (clocks c) (word c) ≡ true
 good c = sym (c .before .good-bound .ensures) ∙ not-false _ (c .if1 .left)
 
-below-five : (c : tie.Else1 Inv-loop μ-loop) {k : ℕ} → k ≤ clocks c → k < 5
-below-five c h = omega arith
+-- its cell is one of the table's
+in-table : (c : tie.After-cell-of Inv-loop μ-loop) → c .cell-of .result < 25
+in-table c =
+    let i = good-first _ _ (good (c .before)) in
+    let j = good-second _ _ (good (c .before)) in
+    omega (arith, c .cell-of .ensures)
 
 universe-requires : tie.Need-universe-requires Inv-loop μ-loop
 universe-requires c κs = search needs
@@ -58,8 +62,26 @@ returns c =
     let turn = c .before .before .before .before .loop in
     loop-bad _ _ (turn .at) _ (omega arith) (sym (c .before .good-bound .ensures) ∙ not-true _ (c .if1 .taken)) ∙ sym (turn .inv .1)
 
-with-word-requires : tie.Need-with-word-requires Inv-loop μ-loop
-with-word-requires c κs = (below-five c (good-first _ _ (good c)), below-five c (good-second _ _ (good c)))
+cell-of-requires : tie.Need-cell-of-requires Inv-loop μ-loop
+cell-of-requires c κs = search needs
+
+mul-old : tie.Need-mul-old Inv-loop μ-loop
+mul-old c = let h = in-table c in search needs
+
+element-copy-out-old : tie.Need-element-copy-out-old Inv-loop μ-loop
+element-copy-out-old c = in-table c
+
+bound-of-requires : tie.Need-bound-of-requires Inv-loop μ-loop
+bound-of-requires c κs = search needs
+
+tighter-of-requires : tie.Need-tighter-of-requires Inv-loop μ-loop
+tighter-of-requires c κs = search needs
+
+mul-t11 : tie.Need-mul-t11 Inv-loop μ-loop
+mul-t11 c = let h = in-table (c .before .before .before) in search needs
+
+element-set-from-zone : tie.Need-element-set-from-zone Inv-loop μ-loop
+element-set-from-zone c = in-table (c .before .before .before)
 
 add-at : tie.Need-add-at Inv-loop μ-loop
 add-at c = search needs
@@ -69,10 +91,12 @@ loop-less c = search needs
 
 loop-again : tie.Need-loop-again Inv-loop μ-loop
 loop-again c =
-    let past = c .before in (
+    let bound = c .before in
+    let cell = bound .before .before in
+    let past = cell .before in (
       omega arith,
       turn past .loop .inv .1 ∙ loop-good _ _ _ _ (past .before .before .before .loop-test .taken) (good past)
-          ∙ ap (readFrom _ _ _) (sym (c .with-word .ensures)),
+          ∙ ap (readFrom _ _ _) (sym (word-put (word past) _ _ _ _ (cell .cell-of .ensures) (bound .bound-of .ensures) (c .tighter-of .ensures))),
     )
 
 returns-2 : tie.Need-returns-2 Inv-loop μ-loop
@@ -91,7 +115,13 @@ read-zone-spec =
     shared-slice-read-word
     good-bound-requires
     returns
-    with-word-requires
+    cell-of-requires
+    mul-old
+    element-copy-out-old
+    bound-of-requires
+    tighter-of-requires
+    mul-t11
+    element-set-from-zone
     add-at
     loop-less
     loop-again

@@ -1,35 +1,20 @@
-use mathlib.Core.Path.{_≡_, ap, _∙_}
+use mathlib.Core.Path.{_≡_}
 use mathlib.Core.Bool.{true}
 use borrow.Author.Needs.{needs}
 use Rattle.zone.specs.Words.{kind}
 use Rattle.model.specs.Grammar.{follows?}
 use Rattle.model.specs.Scan.{faultAt}
-use Rattle.model.proofs.KindLaws.{model-follows}
 use Rattle.model.proofs.WordChecks.{failed, passed}
 use Rattle.model.proofs.seen.Seen.fault.Statement.{statement}
 use Rattle.model.proofs.seen.Seen.fault.Tie as tie
 
-kind-of-requires : tie.Need-kind-of-requires
-kind-of-requires c κs = search needs
-
-may-follow-requires : tie.Need-may-follow-requires
-may-follow-requires c κs = search needs
-
--- the constant table, asked for an opener of a model
-told : (c : tie.After-may-follow) →
-    c .may-follow .result ≡ follows? (c .before .before .args .self .opener) (kind (c .before .before .args .word))
-told c =
-    c .may-follow .ensures
-    ∙ model-follows _ _ (c .before .before .pre .opener)
-    ∙ ap (follows? (c .before .before .args .self .opener)) (c .before .kind-of .ensures)
-
 returns : tie.Need-returns
 unfolding faultAt
-returns c = rw (failed (told (c .before)) (c .if1 .taken))
+returns c = rw (failed (c .before .pre .1) (c .if1 .taken))
 
 -- past the first check
-follows : (c : tie.Else1) → follows? (c .before .before .before .args .self .opener) (kind (c .before .before .before .args .word)) ≡ true
-follows c = passed (told (c .before)) (c .if1 .left)
+follows : (c : tie.Else1) → follows? (c .before .args .self .opener) (kind (c .before .args .word)) ≡ true
+follows c = passed (c .before .pre .1) (c .if1 .left)
 
 fields-requires : tie.Need-fields-requires
 fields-requires c κs = search needs
@@ -77,8 +62,6 @@ pub fault-spec : {M : Type 1} → statement M
 fault-spec =
     tie.close
     (tie.spec
-    kind-of-requires
-    may-follow-requires
     returns
     fields-requires
     returns-2

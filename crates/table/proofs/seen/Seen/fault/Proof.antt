@@ -1,35 +1,22 @@
-use mathlib.Core.Path.{_≡_, ap, _∙_}
+use mathlib.Core.Path.{_≡_}
 use mathlib.Core.Bool.{true, _&&_}
 use borrow.Author.Needs.{needs}
 use Rattle.zone.specs.Words.{kind}
 use Rattle.model.specs.Grammar.{tableFollows?}
-use Rattle.model.proofs.KindLaws.{table-follows}
 use Rattle.model.proofs.WordChecks.{failed, passed}
 use Rattle.table.specs.Scan.{rowsAllowAt?, faultAt}
 use Rattle.table.proofs.seen.Seen.fault.Statement.{statement}
 use Rattle.table.proofs.seen.Seen.fault.Tie as tie
 
-kind-of-requires : tie.Need-kind-of-requires
-kind-of-requires c κs = search needs
-
-may-follow-requires : tie.Need-may-follow-requires
-may-follow-requires c κs = search needs
-
 rows-allow-requires : tie.Need-rows-allow-requires
 rows-allow-requires c κs = search needs
 
--- the first check, the constant table asked for an opener of a table
+-- the first check
 told :
-    (c : tie.After-rows-allow) → let start = c .before .before .before in
-    (c .before .may-follow .result && c .rows-allow .result)
+    (c : tie.After-rows-allow) → let start = c .before in
+    (start .args .allowed && c .rows-allow .result)
     ≡ (tableFollows? (start .args .self .opener) (kind (start .args .word)) && rowsAllowAt? (start .args .self) (start .args .word))
-told c =
-    let start = c .before .before .before in
-    let follows =
-    c .before .may-follow .ensures
-    ∙ table-follows _ _ (start .pre)
-    ∙ ap (tableFollows? (start .args .self .opener)) (c .before .before .kind-of .ensures) in
-    rw (follows, c .rows-allow .ensures)
+told c = rw (c .before .pre, c .rows-allow .ensures)
 
 returns : tie.Need-returns
 unfolding faultAt
@@ -40,7 +27,7 @@ fields-requires c κs = search needs
 
 -- past the first check
 stands :
-    (c : tie.Else1) → let start = c .before .before .before .before in
+    (c : tie.Else1) → let start = c .before .before in
     (tableFollows? (start .args .self .opener) (kind (start .args .word)) && rowsAllowAt? (start .args .self) (start .args .word)) ≡ true
 stands c = passed (told (c .before)) (c .if1 .left)
 
@@ -73,8 +60,6 @@ pub fault-spec : {M : Type 1} → statement M
 fault-spec =
     tie.close
     (tie.spec
-    kind-of-requires
-    may-follow-requires
     rows-allow-requires
     returns
     fields-requires

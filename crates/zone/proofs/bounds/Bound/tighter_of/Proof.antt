@@ -1,6 +1,6 @@
 use mathlib.Core.Path.{sym, _∙_}
 use borrow.Author.Needs.{needs}
-use Rattle.zone.proofs.CellCode.{first-tighter, second-tighter}
+use Rattle.zone.proofs.CellCode.{is-tightened, not-tightened}
 use Rattle.zone.proofs.bounds.Bound.tighter_of.Statement.{statement}
 use Rattle.zone.proofs.bounds.Bound.tighter_of.Tie as tie
 
@@ -8,10 +8,10 @@ tighter-requires : tie.Need-tighter-requires
 tighter-requires c κs = search needs
 
 returns : tie.Need-returns
-returns c = first-tighter _ _ (sym (c .before .tighter .ensures) ∙ c .if1 .taken)
+returns c = is-tightened _ _ (sym (c .before .tighter .ensures) ∙ c .if1 .taken)
 
 returns-2 : tie.Need-returns-2
-returns-2 c = second-tighter _ _ (sym (c .before .tighter .ensures) ∙ c .if1 .left)
+returns-2 c = not-tightened _ _ (sym (c .before .tighter .ensures) ∙ c .if1 .left)
 
 pub tighter-of-spec : {M : Type 1} → statement M
 tighter-of-spec = tie.close (tie.spec tighter-requires returns returns-2)

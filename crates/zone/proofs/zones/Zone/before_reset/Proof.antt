@@ -1,18 +1,38 @@
-use Prim.Native.Nat.{_≤_, _-_}
-use mathlib.Core.Path.{_≡_, refl, _∙_}
+use Prim.Native.Nat.{ℕ, _≤_, _<_, _-_, _/_, _%_, _*_, _+_}
+use mathlib.Core.List.{List}
+use mathlib.Core.Path.{_≡_}
 use native.Mathlib.Nat.{div-add-mod'}
 use native.Mathlib.Numerals.{add-one}
 use native.Mathlib.Omega.{arith}
 use borrow.Author.Needs.{needs}
-use Rattle.zone.specs.Squares.{beforeBelow}
+use lib.ListN.{getD, set}
+use Rattle.zone.specs.Cells.{unbounded, tighterOf}
+use Rattle.zone.specs.Squares.{listOf, source, withBound, beforeBelow}
+use Rattle.zone.specs.declared.bounds.Bound.{Bound as Cell}
+use Rattle.zone.specs.declared.zones.Zone.{Zone as Square}
+use Rattle.zone.proofs.SquareTables.{sources-at, AreClocks, sources-lt}
 use Rattle.zone.proofs.zones.Zone.before_reset.Statement.{statement}
 use Rattle.zone.proofs.zones.Zone.before_reset.Tie as tie
 
+-- one bound more, on the sources of its two clocks
+put :
+    (mask : ℕ) (z out : Square) {from : List ℕ} → from ≡ listOf (source mask) 5 0 → (p : ℕ) → p < 25 → out ≡ beforeBelow mask p z →
+    (new : Cell) →
+    new ≡ tighterOf (getD (out .cells) (getD from (p / 5) 0 * 5 + getD from (p % 5) 0) unbounded) (getD (z .cells) p unbounded) →
+    _≡_ {A = Square} (record { cells = set (out .cells) (getD from (p / 5) 0 * 5 + getD from (p % 5) 0) new }) (beforeBelow mask (p + 1) z)
+unfolding beforeBelow withBound
+put mask z out e p h f new g =
+    rw
+    (g, f, sources-at mask e (p / 5) (omega arith) .0, sources-at mask e (p % 5) (omega arith) .0, add-one p, div-add-mod' p 5)
+
 abbrev Inv-loop : tie.InvT-loop
-Inv-loop mask self out₀ p₀ out p = (p ≤ 25) × (out ≡ beforeBelow mask p self)
+Inv-loop mask self from out₀ p₀ out p = (p ≤ 25) × (out ≡ beforeBelow mask p self)
 
 abbrev μ-loop : tie.MeasureT-loop
-μ-loop mask self out₀ p₀ out p = 25 - p
+μ-loop mask self from out₀ p₀ out p = 25 - p
+
+sources-requires : tie.Need-sources-requires Inv-loop μ-loop
+sources-requires c κs = search needs
 
 universe-requires : tie.Need-universe-requires Inv-loop μ-loop
 universe-requires c κs = search needs
@@ -21,20 +41,53 @@ loop-holds : tie.Need-loop-holds Inv-loop μ-loop
 unfolding beforeBelow
 loop-holds c = (omega arith, c .universe .ensures)
 
-source-of-requires : tie.Need-source-of-requires Inv-loop μ-loop
-source-of-requires c κs = search needs
+mul-i : tie.Need-mul-i Inv-loop μ-loop
+mul-i c = search needs
 
-source-of-requires-2 : tie.Need-source-of-requires-2 Inv-loop μ-loop
-source-of-requires-2 c κs = search needs
+array-read-i : tie.Need-array-read-i Inv-loop μ-loop
+array-read-i c = omega arith
 
-mul-with-bound : tie.Need-mul-with-bound Inv-loop μ-loop
-mul-with-bound c = search needs
+mul-j : tie.Need-mul-j Inv-loop μ-loop
+mul-j c = search needs
 
-element-copy-out-with-bound : tie.Need-element-copy-out-with-bound Inv-loop μ-loop
-element-copy-out-with-bound c = search needs
+array-read-j : tie.Need-array-read-j Inv-loop μ-loop
+array-read-j c = omega arith
 
-with-bound-requires : tie.Need-with-bound-requires Inv-loop μ-loop
-with-bound-requires c κs = search needs
+clocks : (c : tie.In-loop Inv-loop μ-loop) → AreClocks (c .before .before .before .sources .result) (c .before .loop .p)
+clocks c = sources-lt _ (c .before .before .before .sources .ensures) (c .before .loop .p) (omega arith)
+
+mul-old : tie.Need-mul-old Inv-loop μ-loop
+mul-old c = let (h, k) = clocks c in search needs
+
+add-old : tie.Need-add-old Inv-loop μ-loop
+add-old c = let (h, k) = clocks c in search needs
+
+mul-old-2 : tie.Need-mul-old-2 Inv-loop μ-loop
+mul-old-2 c = let (h, k) = clocks c in search needs
+
+element-copy-out-old : tie.Need-element-copy-out-old Inv-loop μ-loop
+element-copy-out-old c = let (h, k) = clocks c in omega arith
+
+mul-tighter-of : tie.Need-mul-tighter-of Inv-loop μ-loop
+mul-tighter-of c = search needs
+
+element-copy-out-tighter-of : tie.Need-element-copy-out-tighter-of Inv-loop μ-loop
+element-copy-out-tighter-of c = search needs
+
+tighter-of-requires : tie.Need-tighter-of-requires Inv-loop μ-loop
+tighter-of-requires c κs = search needs
+
+mul-t17 : tie.Need-mul-t17 Inv-loop μ-loop
+mul-t17 c = let (h, k) = clocks (c .before .before .before) in search needs
+
+add-t14 : tie.Need-add-t14 Inv-loop μ-loop
+add-t14 c = let (h, k) = clocks (c .before .before .before) in search needs
+
+mul-t26 : tie.Need-mul-t26 Inv-loop μ-loop
+mul-t26 c = let (h, k) = clocks (c .before .before .before) in search needs
+
+element-set-from-out : tie.Need-element-set-from-out Inv-loop μ-loop
+element-set-from-out c = let (h, k) = clocks (c .before .before .before) in omega arith
 
 add-p : tie.Need-add-p Inv-loop μ-loop
 add-p c = search needs
@@ -43,13 +96,10 @@ loop-less : tie.Need-loop-less Inv-loop μ-loop
 loop-less c = search needs
 
 loop-again : tie.Need-loop-again Inv-loop μ-loop
-unfolding beforeBelow
 loop-again c =
-    let read = c .before .before in
-    let turn = read .before .before .before .loop in (
+    let turn = c .before .before .before .before in (
       omega arith,
-      c .with-bound .ensures
-          ∙ rw (add-one (turn .p), div-add-mod' (turn .p) 5, read .before .source-of .ensures .0, read .source-of2 .ensures .0, turn .inv .1) refl,
+      put _ _ _ (turn .before .before .sources .ensures) (turn .loop .p) (omega arith) (turn .loop .inv .1) _ (c .tighter-of .ensures),
     )
 
 returns : tie.Need-returns Inv-loop μ-loop
@@ -61,13 +111,24 @@ before-reset-spec =
     (tie.spec
     Inv-loop
     μ-loop
+    sources-requires
     universe-requires
     loop-holds
-    source-of-requires
-    source-of-requires-2
-    mul-with-bound
-    element-copy-out-with-bound
-    with-bound-requires
+    mul-i
+    array-read-i
+    mul-j
+    array-read-j
+    mul-old
+    add-old
+    mul-old-2
+    element-copy-out-old
+    mul-tighter-of
+    element-copy-out-tighter-of
+    tighter-of-requires
+    mul-t17
+    add-t14
+    mul-t26
+    element-set-from-out
     add-p
     loop-less
     loop-again

@@ -1,12 +1,14 @@
 use Prim.Native.Nat.{ℕ, _≤_, _<_, _-_}
 use mathlib.Core.Path.{_≡_, ap, sym, _∙_}
 use mathlib.Core.Bool.{not, true}
+use mathlib.Core.Logic.{⊎-elim}
 use native.Mathlib.Omega.{arith}
 use borrow.Author.Count.{below-none, below-more}
 use borrow.Author.Needs.{needs}
 use lib.ListN.{getD}
 use Rattle.zone.specs.Cells.{unbounded, tighter?}
 use Rattle.zone.specs.Squares.{inside?}
+use Rattle.zone.proofs.CellCode.{not-finite}
 use Rattle.zone.proofs.Loops.{all-pass, one-fails}
 use Rattle.zone.proofs.zones.Zone.inside.Statement.{statement}
 use Rattle.zone.proofs.zones.Zone.inside.Tie as tie
@@ -39,8 +41,8 @@ tighter-requires c κs = search needs
 returns : tie.Need-returns Inv-loop μ-loop
 unfolding inside?
 returns c =
-    let turn = c .before .before .before .before .before .loop in
-    sym (one-fails 25 _ (turn .p) (omega arith) (ap not (sym (c .before .tighter .ensures) ∙ c .if1 .taken)))
+    let turn = c .before .before .before .before .before .before .loop in
+    sym (one-fails 25 _ (turn .p) (omega arith) (ap not (sym (c .before .tighter .ensures) ∙ c .if2 .taken)))
 
 add-p : tie.Need-add-p Inv-loop μ-loop
 add-p c = search needs
@@ -50,8 +52,10 @@ loop-less c = search needs
 
 loop-again : tie.Need-loop-again Inv-loop μ-loop
 loop-again c =
-    let turn = c .before .before .before .before .before .loop in
-    (omega arith, below-more _ _ (turn .inv .1) (ap not (sym (c .before .tighter .ensures) ∙ c .if1 .left)))
+    let turn = c .before .before .before .loop in (
+      omega arith,
+      below-more _ _ (turn .inv .1) (ap not (⊎-elim (λ w. sym (w .2 .ensures) ∙ w .3 .left) (λ w. not-finite _ _ (w .left)) (c .if1 .came))),
+    )
 
 returns-2 : tie.Need-returns-2 Inv-loop μ-loop
 unfolding inside?

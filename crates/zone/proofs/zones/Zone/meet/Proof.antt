@@ -1,14 +1,23 @@
-use Prim.Native.Nat.{_≤_, _-_}
-use mathlib.Core.Path.{_∙_}
+use Prim.Native.Nat.{ℕ, _≤_, _<_, _-_}
+use mathlib.Core.Path.{_≡_, sym, _∙_}
+use mathlib.Core.Logic.{⊎-elim}
 use native.Mathlib.Nat.{div-add-mod'}
 use native.Mathlib.Omega.{arith}
 use borrow.Author.Needs.{needs}
-use lib.ListN.{length-map}
-use Rattle.zone.specs.Cells.{unbounded}
+use lib.ListN.{getD, length-map}
+use Rattle.zone.specs.Cells.{unbounded, tighterOf}
 use Rattle.zone.specs.Squares.{met}
-use Rattle.zone.proofs.Loops.{listOf-length, listOf-at, Filled, unfilled, stored, filled}
+use Rattle.zone.specs.declared.zones.Zone.{Zone as Square}
+use Rattle.zone.proofs.CellCode.{is-tightened, not-tightened}
+use Rattle.zone.proofs.Loops.{listOf-length, listOf-at, Filled, unfilled, stored, unchanged, filled}
 use Rattle.zone.proofs.zones.Zone.meet.Statement.{statement}
 use Rattle.zone.proofs.zones.Zone.meet.Tie as tie
+
+-- a cell is the tighter of the two
+both :
+    (y z : Square) (p : ℕ) → p < 25 →
+    tighterOf (getD (y .cells) p unbounded) (getD (z .cells) p unbounded) ≡ getD (met y z .cells) p unbounded
+both y z p h = rw (listOf-at unbounded _ 25 p h, div-add-mod' p 5)
 
 abbrev Inv-loop : tie.InvT-loop
 Inv-loop self other out₀ p₀ out p = (p ≤ 25) × Filled unbounded 25 (met self other .cells) (out₀ .cells) p (out .cells)
@@ -19,26 +28,26 @@ abbrev μ-loop : tie.MeasureT-loop
 loop-holds : tie.Need-loop-holds Inv-loop μ-loop
 loop-holds c = (omega arith, unfilled (simp length-map at (c .good .0 .1 .1 .0 .1 .0 .1)))
 
-mul-a : tie.Need-mul-a Inv-loop μ-loop
-mul-a c = search needs
-
-element-copy-out-a : tie.Need-element-copy-out-a Inv-loop μ-loop
-element-copy-out-a c = search needs
-
 mul-b : tie.Need-mul-b Inv-loop μ-loop
 mul-b c = search needs
 
 element-copy-out-b : tie.Need-element-copy-out-b Inv-loop μ-loop
 element-copy-out-b c = search needs
 
-tighter-of-requires : tie.Need-tighter-of-requires Inv-loop μ-loop
-tighter-of-requires c κs = search needs
+mul-tighter : tie.Need-mul-tighter Inv-loop μ-loop
+mul-tighter c = search needs
 
-mul-t11 : tie.Need-mul-t11 Inv-loop μ-loop
-mul-t11 c = search needs
+element-copy-out-tighter : tie.Need-element-copy-out-tighter Inv-loop μ-loop
+element-copy-out-tighter c = search needs
 
-element-set-from-out : tie.Need-element-set-from-out Inv-loop μ-loop
-element-set-from-out c = search needs
+tighter-requires : tie.Need-tighter-requires Inv-loop μ-loop
+tighter-requires c κs = search needs
+
+mul-b-2 : tie.Need-mul-b-2 Inv-loop μ-loop
+mul-b-2 c = search needs
+
+element-set-from-b : tie.Need-element-set-from-b Inv-loop μ-loop
+element-set-from-b c = search needs
 
 add-p : tie.Need-add-p Inv-loop μ-loop
 add-p c = search needs
@@ -48,10 +57,17 @@ loop-less c = search needs
 
 loop-again : tie.Need-loop-again Inv-loop μ-loop
 loop-again c =
-    let turn = c .before .before .before .before .loop in (
+    let turn = c .before .before .before .before .before .loop in
+    let start = c .before .before .before .before .before .before in (
       omega arith,
-      stored (turn .inv .1) (c .tighter-of .result) (omega arith)
-          (c .tighter-of .ensures ∙ rw (listOf-at unbounded _ 25 (turn .p) (omega arith), div-add-mod' (turn .p) 5)),
+      ⊎-elim
+          (λ w. rw (w .1)
+          (stored (turn .inv .1) _ (omega arith)
+          (is-tightened _ _ (sym (c .before .tighter .ensures) ∙ w .0 .taken) ∙ both (start .args .t1) (start .args .t2) (turn .p) (omega arith))))
+          (λ w. rw (w .1)
+          (unchanged (turn .inv .1)
+          (not-tightened _ _ (sym (c .before .tighter .ensures) ∙ w .0 .left) ∙ both (start .args .t1) (start .args .t2) (turn .p) (omega arith))))
+          (c .if1 .came),
     )
 
 returns : tie.Need-returns Inv-loop μ-loop
@@ -64,13 +80,13 @@ meet-spec =
     Inv-loop
     μ-loop
     loop-holds
-    mul-a
-    element-copy-out-a
     mul-b
     element-copy-out-b
-    tighter-of-requires
-    mul-t11
-    element-set-from-out
+    mul-tighter
+    element-copy-out-tighter
+    tighter-requires
+    mul-b-2
+    element-set-from-b
     add-p
     loop-less
     loop-again

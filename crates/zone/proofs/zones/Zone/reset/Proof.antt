@@ -1,80 +1,160 @@
-use Prim.Native.Nat.{_≤_, _-_}
+use Prim.Native.Nat.{ℕ, _≤_, _<_, _-_, _*_, _+_}
+use mathlib.Core.Path.{_≡_, sym}
+use mathlib.Core.List.{List}
 use native.Mathlib.Omega.{arith}
 use borrow.Author.Needs.{needs}
-use lib.ListN.{length-map}
+use lib.ListN.{getD, length-map}
 use Rattle.zone.specs.Cells.{unbounded}
-use Rattle.zone.specs.Squares.{resetSquare}
-use Rattle.zone.proofs.Loops.{listOf-length, listOf-at, Filled, unfilled, stored, filled}
+use Rattle.zone.specs.Squares.{cell, listOf, source, resetSquare}
+use Rattle.zone.specs.declared.zones.Zone.{Zone as Square}
+use Rattle.zone.proofs.Loops.{listOf-length, Filled, unfilled, stored, same-place, filled}
+use Rattle.zone.proofs.SquareTables.{square-at, sources-at}
 use Rattle.zone.proofs.zones.Zone.reset.Statement.{statement}
 use Rattle.zone.proofs.zones.Zone.reset.Tie as tie
 
+-- a cell is that of the sources of its two clocks
+moved :
+    (mask : ℕ) (z : Square) {from : List ℕ} → from ≡ listOf (source mask) 5 0 → (i j : ℕ) → i < 5 → j < 5 →
+    cell z (getD from i 0) (getD from j 0) ≡ cell (resetSquare mask z) i j
+moved mask z e i j hi hj =
+    rw (sources-at mask e i hi .0, sources-at mask e j hj .0) (sym (square-at (λ i j. cell z (source mask i) (source mask j)) i j hi hj))
+
+-- that cell lies within the table
+abbrev Within : List ℕ → ℕ → ℕ → Type 0
+Within from i j = getD from i 0 * 5 + getD from j 0 < 25
+
+sources-within : (mask : ℕ) {from : List ℕ} → from ≡ listOf (source mask) 5 0 → (i j : ℕ) → i < 5 → j < 5 → Within from i j
+sources-within mask e i j hi hj =
+    let h = sources-at mask e i hi .1 in
+    let k = sources-at mask e j hj .1 in
+    omega arith
+
+abbrev Inv-loop2 : tie.InvT-loop2
+Inv-loop2 mask self from out₀ i row j₀ out j =
+    (j ≤ 5) × Filled unbounded 25 (resetSquare mask self .cells) (self .cells) (i * 5 + j) (out .cells)
+
+abbrev μ-loop2 : tie.MeasureT-loop2
+μ-loop2 mask self from out₀ i row j₀ out j = 5 - j
+
 abbrev Inv-loop : tie.InvT-loop
-Inv-loop mask self out₀ p₀ out p = (p ≤ 25) × Filled unbounded 25 (resetSquare mask self .cells) (out₀ .cells) p (out .cells)
+Inv-loop mask self from out₀ i₀ out i = (i ≤ 5) × Filled unbounded 25 (resetSquare mask self .cells) (self .cells) (i * 5) (out .cells)
 
 abbrev μ-loop : tie.MeasureT-loop
-μ-loop mask self out₀ p₀ out p = 25 - p
+μ-loop mask self from out₀ i₀ out i = 5 - i
 
-loop-holds : tie.Need-loop-holds Inv-loop μ-loop
-loop-holds c = (omega arith, unfilled (simp length-map at (c .good .0 .1 .1 .0 .1 .0 .1)))
+sources-requires : tie.Need-sources-requires Inv-loop2 μ-loop2 Inv-loop μ-loop
+sources-requires c κs = search needs
 
-source-of-requires : tie.Need-source-of-requires Inv-loop μ-loop
-source-of-requires c κs = search needs
+loop-holds : tie.Need-loop-holds Inv-loop2 μ-loop2 Inv-loop μ-loop
+loop-holds c = (omega arith, unfilled (simp length-map at (c .before .good .0 .1 .1 .0 .1 .0 .1)))
 
-source-of-requires-2 : tie.Need-source-of-requires-2 Inv-loop μ-loop
-source-of-requires-2 c κs = search needs
+mul-row : tie.Need-mul-row Inv-loop2 μ-loop2 Inv-loop μ-loop
+mul-row c = search needs
 
-mul-out : tie.Need-mul-out Inv-loop μ-loop
+array-read-row : tie.Need-array-read-row Inv-loop2 μ-loop2 Inv-loop μ-loop
+array-read-row c = search needs
+
+mul-row-2 : tie.Need-mul-row-2 Inv-loop2 μ-loop2 Inv-loop μ-loop
+mul-row-2 c =
+    let turn = c .before in
+    let h = sources-at _ (turn .before .sources .ensures) (turn .loop .i) (omega arith) .1 in
+    omega arith
+
+loop2-holds : tie.Need-loop2-holds Inv-loop2 μ-loop2 Inv-loop μ-loop
+loop2-holds c = (omega arith, same-place (c .before .loop .inv .1) (omega arith))
+
+mul-out : tie.Need-mul-out Inv-loop2 μ-loop2 Inv-loop μ-loop
 mul-out c = search needs
 
-add-out : tie.Need-add-out Inv-loop μ-loop
-add-out c = search needs
+array-read-out : tie.Need-array-read-out Inv-loop2 μ-loop2 Inv-loop μ-loop
+array-read-out c = search needs
 
-mul-out-2 : tie.Need-mul-out-2 Inv-loop μ-loop
-mul-out-2 c = search needs
+within :
+    (c : tie.In-loop2 Inv-loop2 μ-loop2 Inv-loop μ-loop) →
+    Within (c .before .before .before .before .sources .result) (c .before .before .before .loop .i) (c .before .loop2 .j)
+within c =
+    let row = c .before .before .before in
+    sources-within _ (row .before .sources .ensures) (row .loop .i) (c .before .loop2 .j) (omega arith) (omega arith)
 
-element-copy-out-out : tie.Need-element-copy-out-out Inv-loop μ-loop
-element-copy-out-out c = search needs
+add-out : tie.Need-add-out Inv-loop2 μ-loop2 Inv-loop μ-loop
+add-out c = let h = within c in search needs
 
-mul-t16 : tie.Need-mul-t16 Inv-loop μ-loop
-mul-t16 c = search needs
+mul-out-2 : tie.Need-mul-out-2 Inv-loop2 μ-loop2 Inv-loop μ-loop
+mul-out-2 c = let h = within c in search needs
 
-element-set-from-out : tie.Need-element-set-from-out Inv-loop μ-loop
+element-copy-out-out : tie.Need-element-copy-out-out Inv-loop2 μ-loop2 Inv-loop μ-loop
+element-copy-out-out c = within c
+
+mul-t26 : tie.Need-mul-t26 Inv-loop2 μ-loop2 Inv-loop μ-loop
+mul-t26 c = search needs
+
+add-t27 : tie.Need-add-t27 Inv-loop2 μ-loop2 Inv-loop μ-loop
+add-t27 c = search needs
+
+mul-t28 : tie.Need-mul-t28 Inv-loop2 μ-loop2 Inv-loop μ-loop
+mul-t28 c = search needs
+
+element-set-from-out : tie.Need-element-set-from-out Inv-loop2 μ-loop2 Inv-loop μ-loop
 element-set-from-out c = search needs
 
-add-p : tie.Need-add-p Inv-loop μ-loop
-add-p c = search needs
+add-j : tie.Need-add-j Inv-loop2 μ-loop2 Inv-loop μ-loop
+add-j c = search needs
 
-loop-less : tie.Need-loop-less Inv-loop μ-loop
-loop-less c = search needs
+loop2-less : tie.Need-loop2-less Inv-loop2 μ-loop2 Inv-loop μ-loop
+loop2-less c = search needs
 
-loop-again : tie.Need-loop-again Inv-loop μ-loop
-loop-again c =
-    let read = c .before in
-    let turn = read .before .before .before .loop in (
+loop2-again : tie.Need-loop2-again Inv-loop2 μ-loop2 Inv-loop μ-loop
+loop2-again c =
+    let turn = c .before .before in
+    let row = turn .before .before in
+    let call = row .before in
+    let start = call .before in (
       omega arith,
-      stored (turn .inv .1) _ (omega arith)
-          (rw (read .before .source-of .ensures .0, read .source-of2 .ensures .0, listOf-at unbounded _ 25 (turn .p) (omega arith))),
+      same-place
+          (stored (turn .loop2 .inv .1) _ (omega arith)
+          (moved (start .args .mask) (start .args .t1) (call .sources .ensures) (row .loop .i) (turn .loop2 .j) (omega arith) (omega arith)))
+          (omega arith),
     )
 
-returns : tie.Need-returns Inv-loop μ-loop
-returns c = filled (c .before .loop .inv .1) (listOf-length _ 25 0) (c .loop-test .left)
+add-i : tie.Need-add-i Inv-loop2 μ-loop2 Inv-loop μ-loop
+add-i c = search needs
+
+loop-less : tie.Need-loop-less Inv-loop2 μ-loop2 Inv-loop μ-loop
+loop-less c = search needs
+
+loop-again : tie.Need-loop-again Inv-loop2 μ-loop2 Inv-loop μ-loop
+loop-again c = (omega arith, same-place (c .before .loop2 .inv .1) (omega arith))
+
+returns : tie.Need-returns Inv-loop2 μ-loop2 Inv-loop μ-loop
+returns c = filled (c .before .loop .inv .1) (listOf-length _ 25 0) (omega arith)
 
 pub reset-spec : {M : Type 1} → statement M
 reset-spec =
     tie.close
     (tie.spec
+    Inv-loop2
+    μ-loop2
     Inv-loop
     μ-loop
+    sources-requires
     loop-holds
-    source-of-requires
-    source-of-requires-2
+    mul-row
+    array-read-row
+    mul-row-2
+    loop2-holds
     mul-out
+    array-read-out
     add-out
     mul-out-2
     element-copy-out-out
-    mul-t16
+    mul-t26
+    add-t27
+    mul-t28
     element-set-from-out
-    add-p
+    add-j
+    loop2-less
+    loop2-again
+    add-i
     loop-less
     loop-again
     returns)

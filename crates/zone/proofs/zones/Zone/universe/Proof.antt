@@ -1,4 +1,4 @@
-use Prim.Native.Nat.{ℕ, _≤_, _<_, _-_, _/_, _%_, _+_}
+use Prim.Native.Nat.{ℕ, _≤_, _<_, _-_, _/_, _%_}
 use mathlib.Core.Path.{_≡_, refl, _∙_}
 use mathlib.Core.Bool.{true, false, _||_}
 use mathlib.Core.Logic.{⊎-elim}
@@ -8,7 +8,7 @@ use lib.Dec.{eqb}
 use lib.ListN.{getD, replicate, getD-replicate}
 use Rattle.zone.specs.Cells.{unbounded, atMostZero}
 use Rattle.zone.specs.Squares.{universe}
-use Rattle.zone.proofs.Loops.{listOf-length, listOf-at, Filled, unfilled, stored, kept, filled}
+use Rattle.zone.proofs.Loops.{listOf-length, listOf-at, Filled, unfilled, stored, unchanged, filled}
 use Rattle.zone.proofs.zones.Zone.universe.Statement.{statement}
 use Rattle.zone.proofs.zones.Zone.universe.Tie as tie
 
@@ -23,10 +23,9 @@ bound : (p : ℕ) → p < 25 → (eqb (p / 5) 0 || eqb (p / 5) (p % 5)) ≡ true
 bound p h e = rw (listOf-at unbounded _ 25 p h, e)
 
 blank :
-    (p : ℕ) → p < 25 → (eqb (p / 5) 0 || eqb (p / 5) (p % 5)) ≡ false → (k : ℕ) → p ≤ k → k < p + 1 →
-    getD (replicate 25 unbounded) k unbounded ≡ getD (universe .cells) k unbounded
-blank p h e k l m =
-    let q : k ≡ p = omega arith in rw q (getD-replicate 25 p unbounded unbounded h ∙ rw (listOf-at unbounded _ 25 p h, e))
+    (p : ℕ) → p < 25 → (eqb (p / 5) 0 || eqb (p / 5) (p % 5)) ≡ false →
+    getD (replicate 25 unbounded) p unbounded ≡ getD (universe .cells) p unbounded
+blank p h e = getD-replicate 25 p unbounded unbounded h ∙ rw (listOf-at unbounded _ 25 p h, e)
 
 loop-holds : tie.Need-loop-holds Inv-loop μ-loop
 loop-holds c = (omega arith, unfilled refl)
@@ -49,7 +48,7 @@ loop-again c =
       omega arith,
       ⊎-elim
           (λ w. rw (w .1) (stored (turn .inv .1) atMostZero (omega arith) (bound (turn .p) (omega arith) (w .0 .taken))))
-          (λ w. rw (w .1) (kept (turn .inv .1) (turn .p + 1) (omega arith) (blank (turn .p) (omega arith) (w .0 .left))))
+          (λ w. rw (w .1) (unchanged (turn .inv .1) (blank (turn .p) (omega arith) (w .0 .left))))
           (c .if1 .came),
     )
 

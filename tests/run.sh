@@ -1,0 +1,24 @@
+#!/usr/bin/env bash
+# The outside tests: the static library and the program, from C, from Rust and through the script for people, against an independent reading of
+# document 01. What is proved already is not proved again. `tests/run.sh --long N` does N times the comparisons.
+set -euo pipefail
+cd "$(dirname "$0")/.."
+mkdir -p target/log
+unset JUDGE_PROGRAM # the proved program, and no other
+build() { # quiet unless it fails
+    "$@" >target/log/outside.out 2>&1 || { cat target/log/outside.out; exit 1; }
+}
+build rt staticlib judge_c
+build rt check judge_cli
+
+echo '== the Rust package'
+cargo test --release --quiet --locked --offline --manifest-path bindings/rust/Cargo.toml
+echo '== C'
+gcc -std=c99 -Wall -Wextra -pedantic -Werror -Ibindings/c bindings/c/example.c target/staticlib/libjudge_c.a -o target/c_example
+said=$(target/c_example)
+[[ $said = $'ACCEPTED 1 10 3\nREFUSED 19 4' ]] || { echo "the C example said: $said"; exit 1; }
+echo '== ./judge'
+tests/judge_script.sh
+echo '== the reading, and the judge compared with it'
+cargo test --release --quiet --locked --offline --manifest-path tests/Cargo.toml
+cargo run --release --quiet --locked --offline --manifest-path tests/Cargo.toml --bin compare -- "$@"

@@ -1,0 +1,99 @@
+//! Compares the judge under test with the independent reading and with the exhaustive player.
+//!
+//! `compare [--program PATH] [--long N]`: exit code 0 if all answers agree and nothing is lacking.
+//! `--long N` does the work N times, each time with other seeds.
+//! `compare --wrong`: exit code 0 if all judges that are wrong on purpose are caught.
+
+use std::path::{Path, PathBuf};
+use std::process::ExitCode;
+use std::time::Instant;
+
+use outside::comparer::Fault;
+use outside::plan::{Run, Work};
+use outside::sides::UnderTest;
+use outside::{report, self_check};
+
+const SEED: u64 = 20_240_601;
+
+struct Settings {
+    /// The program under test.
+    program: PathBuf,
+    /// How often the work is done.
+    times: usize,
+    wrong: bool,
+}
+
+fn main() -> ExitCode {
+    let started = Instant::now();
+    let outcome = settings().and_then(|settings| {
+        if settings.wrong {
+            catch_wrong_judges()
+        } else {
+            compare(&settings)
+        }
+    });
+    println!("{:.1} s", started.elapsed().as_secs_f64());
+    match outcome {
+        Ok(()) => ExitCode::SUCCESS,
+        Err(fault) => {
+            println!("FAILED: {fault}");
+            ExitCode::FAILURE
+        }
+    }
+}
+
+fn settings() -> Result<Settings, Fault> {
+    let root = Path::new(env!("CARGO_MANIFEST_DIR")).join("..");
+    let mut settings = Settings {
+        program: root.join("target/bin/judge_cli"),
+        times: 1,
+        wrong: false,
+    };
+    let mut arguments = std::env::args().skip(1);
+    while let Some(argument) = arguments.next() {
+        let mut value = || {
+            let lacking = Fault(format!("{argument} needs a value"));
+            arguments.next().ok_or(lacking)
+        };
+        match argument.as_str() {
+            "--program" => settings.program = PathBuf::from(value()?),
+            "--long" => {
+                let times = value()?;
+                let not_a_number = |_| Fault(format!("--long {times}: not a number"));
+                settings.times = times.parse().map_err(not_a_number)?;
+            }
+            "--wrong" => settings.wrong = true,
+            _ => return Err(Fault(format!("unknown setting {argument}"))),
+        }
+    }
+    Ok(settings)
+}
+
+fn compare(settings: &Settings) -> Result<(), Fault> {
+    let under_test = UnderTest {
+        program: settings.program.clone(),
+    };
+    let mut run = Run::new(&under_test, SEED);
+    for _ in 0..settings.times {
+        run.all(&Work::USUAL)?;
+    }
+    print!("{}", report::comparisons(&run.comparer.tally));
+    print!("{}", report::evidence(&run.evidence, &run.comparer.tally));
+    let lacks = report::lacks(&run.comparer.tally, &run.evidence);
+    if lacks.is_empty() {
+        return Ok(());
+    }
+    Err(Fault(lacks.join("; ")))
+}
+
+fn catch_wrong_judges() -> Result<(), Fault> {
+    for (name, before) in self_check::wrong_judges()? {
+        println!("caught after {before:>5} equal answers: {name}");
+    }
+    for (name, before) in self_check::flaws_against_player()? {
+        println!("the player objects after {before:>5} answers: {name}");
+    }
+    let told = self_check::false_claims()?;
+    println!("false claims objected to: {told}");
+    Ok(())
+}

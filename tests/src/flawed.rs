@@ -1,0 +1,199 @@
+//! A judge with one flaw to choose, among them the errors that document 01 says would pass a casual
+//! look. It is put together from the reading's parsers and zones.
+
+use crate::reading::{parse_model, parse_table, Action, Certificate, Model, Node, NodeRef};
+use crate::reading::{Refusal, Row, Table, Zone};
+
+#[derive(Clone, Copy, Debug, PartialEq, Eq)]
+pub enum Flaw {
+    TrustsANodesZoneToLieInItsInvariant,
+    DelaysPastTheInvariant,
+    ForgetsTheDelay,
+    ForgetsTheGuard,
+    ForgetsWhereEdgesLand,
+    AsksOnlyWhereTheFirstEdgeLands,
+    AsksTheLandingBeforeTheReset,
+    ResetsBeforeTheGuard,
+    ForgetsTheReset,
+    BelievesBlockedRows,
+    ForgivesRowsWithEmptyReach,
+    AddsIn32Bits,
+    AsksTheSumFirst,
+    ChecksOnlyNode0,
+    ForgetsTheStartNode,
+    ForgetsTheStartInvariant,
+    ForgetsTargetValues,
+}
+
+impl Flaw {
+    pub const ALL: [Flaw; 17] = [
+        Flaw::TrustsANodesZoneToLieInItsInvariant,
+        Flaw::DelaysPastTheInvariant,
+        Flaw::ForgetsTheDelay,
+        Flaw::ForgetsTheGuard,
+        Flaw::ForgetsWhereEdgesLand,
+        Flaw::AsksOnlyWhereTheFirstEdgeLands,
+        Flaw::AsksTheLandingBeforeTheReset,
+        Flaw::ResetsBeforeTheGuard,
+        Flaw::ForgetsTheReset,
+        Flaw::BelievesBlockedRows,
+        Flaw::ForgivesRowsWithEmptyReach,
+        Flaw::AddsIn32Bits,
+        Flaw::AsksTheSumFirst,
+        Flaw::ChecksOnlyNode0,
+        Flaw::ForgetsTheStartNode,
+        Flaw::ForgetsTheStartInvariant,
+        Flaw::ForgetsTargetValues,
+    ];
+}
+
+pub fn flawed_judge(flaw: Flaw, model: &[u32], table: &[u32]) -> Result<Certificate, Refusal> {
+    let model = &parse_model(model)?;
+    let table = &parse_table(model, table)?;
+    let judge = Judge { flaw, model, table };
+    let judged = if flaw == Flaw::ChecksOnlyNode0 {
+        1
+    } else {
+        table.nodes.len()
+    };
+    for node in &table.nodes[..judged] {
+        judge.node(node)?;
+    }
+    judge.start()?;
+    let b = table.nodes[table.start.node].value;
+    Ok(Certificate {
+        b,
+        whole: table.whole,
+        nodes: table.nodes.len(),
+    })
+}
+
+struct Judge<'a> {
+    flaw: Flaw,
+    model: &'a Model,
+    table: &'a Table,
+}
+
+impl Judge<'_> {
+    fn invariant(&self, location: usize) -> Zone {
+        Zone::of(self.model.clocks, &self.model.locations[location].invariant)
+    }
+
+    fn zone(&self, node: &Node) -> Zone {
+        Zone::of(self.model.clocks, &node.bounds)
+    }
+
+    fn node(&self, node: &Node) -> Result<(), Refusal> {
+        let location = &self.model.locations[node.location];
+        if location.target {
+            let good = node.value == self.table.whole || self.flaw == Flaw::ForgetsTargetValues;
+            return demand(good, 15, node.value_place);
+        }
+        for (row, action) in node.rows.iter().zip(&location.actions) {
+            let reach = self.reach(node, action);
+            match row {
+                Row::Blocked { place } => {
+                    let believed = self.flaw == Flaw::BelievesBlockedRows;
+                    demand(believed || reach.is_empty(), 16, *place)?;
+                }
+                Row::Successors(successors) => self.row(node, action, successors, &reach)?,
+            }
+        }
+        Ok(())
+    }
+
+    fn reach(&self, node: &Node, action: &Action) -> Zone {
+        let invariant = self.invariant(node.location);
+        let mut reach = self.zone(node);
+        if self.flaw != Flaw::TrustsANodesZoneToLieInItsInvariant {
+            reach = reach.meet(&invariant);
+        }
+        if self.flaw != Flaw::ForgetsTheDelay {
+            reach = reach.delay();
+        }
+        if self.flaw != Flaw::DelaysPastTheInvariant {
+            reach = reach.meet(&invariant);
+        }
+        if !matches!(
+            self.flaw,
+            Flaw::ForgetsTheGuard | Flaw::ResetsBeforeTheGuard
+        ) {
+            reach = reach.meet(&Zone::of(self.model.clocks, &action.guard));
+        }
+        let asked = match self.flaw {
+            Flaw::ForgetsWhereEdgesLand => 0,
+            Flaw::AsksOnlyWhereTheFirstEdgeLands => 1,
+            _ => action.edges.len(),
+        };
+        for edge in &action.edges[..asked] {
+            let early = self.flaw == Flaw::AsksTheLandingBeforeTheReset;
+            let resets = if early { 0 } else { edge.resets };
+            reach = reach.landing_in(&self.invariant(edge.location), resets);
+        }
+        reach
+    }
+
+    fn row(
+        &self,
+        node: &Node,
+        action: &Action,
+        successors: &[NodeRef],
+        reach: &Zone,
+    ) -> Result<(), Refusal> {
+        if self.flaw == Flaw::ForgivesRowsWithEmptyReach && reach.is_empty() {
+            return Ok(());
+        }
+        if self.flaw == Flaw::AsksTheSumFirst {
+            self.sum(node, action, successors)?;
+        }
+        for (edge, successor) in action.edges.iter().zip(successors) {
+            let next = &self.table.nodes[successor.node];
+            demand(next.location == edge.location, 17, successor.place)?;
+            let mut landed = *reach;
+            if self.flaw != Flaw::ForgetsTheReset {
+                landed = landed.reset(edge.resets);
+            }
+            if self.flaw == Flaw::ResetsBeforeTheGuard {
+                landed = landed.meet(&Zone::of(self.model.clocks, &action.guard));
+            }
+            demand(landed.inside(&self.zone(next)), 18, successor.place)?;
+        }
+        self.sum(node, action, successors)
+    }
+
+    fn sum(&self, node: &Node, action: &Action, successors: &[NodeRef]) -> Result<(), Refusal> {
+        let value = |successor: &NodeRef| u64::from(self.table.nodes[successor.node].value);
+        let products = action.edges.iter().zip(successors);
+        let mut sum: u64 = products
+            .map(|(edge, to)| u64::from(edge.weight) * value(to))
+            .sum();
+        let mut most = u64::from(self.model.denominator) * u64::from(node.value);
+        if self.flaw == Flaw::AddsIn32Bits {
+            (sum, most) = (sum & 0xFFFF_FFFF, most & 0xFFFF_FFFF);
+        }
+        demand(sum <= most, 19, successors[0].place)
+    }
+
+    fn start(&self) -> Result<(), Refusal> {
+        let NodeRef { node, place } = self.table.start;
+        let node = &self.table.nodes[node];
+        if self.flaw == Flaw::ForgetsTheStartNode {
+            return Ok(());
+        }
+        demand(node.location == self.model.start.location, 20, place)?;
+        let states = if self.flaw == Flaw::ForgetsTheStartInvariant {
+            Zone::of(self.model.clocks, &self.model.start.bounds)
+        } else {
+            self.model.start_zone()
+        };
+        demand(states.inside(&self.zone(node)), 21, place)
+    }
+}
+
+fn demand(met: bool, number: u32, place: usize) -> Result<(), Refusal> {
+    if met {
+        Ok(())
+    } else {
+        Err(Refusal { number, place })
+    }
+}

@@ -1,0 +1,147 @@
+//! What a run prints, and what it must not lack.
+
+use std::collections::BTreeMap;
+use std::fmt::{Display, Write};
+
+use crate::comparer::{Answer, Tally};
+use crate::evidence::Evidence;
+
+const CALLS: [&str; 5] = [
+    "judge",
+    "read_model",
+    "zone_empty",
+    "zone_inside",
+    "program",
+];
+
+/// All refusals of document 01.
+const REFUSALS: [u32; 22] = [
+    1, 2, 3, 4, 5, 6, 11, 12, 13, 14, 15, 16, 17, 18, 19, 20, 21, 31, 32, 33, 41, 42,
+];
+
+/// All answers that are no refusals.
+const ANSWERS: [(&str, Answer); 7] = [
+    ("judge", Answer::Accepted),
+    ("read_model", Answer::Accepted),
+    ("zone_empty", Answer::Yes),
+    ("zone_empty", Answer::No),
+    ("zone_inside", Answer::Yes),
+    ("zone_inside", Answer::No),
+    ("program", Answer::Accepted),
+];
+
+/// Comparisons by call and answer.
+pub fn comparisons(tally: &Tally) -> String {
+    let mut text = String::new();
+    for call in CALLS {
+        let of_call = tally.answers.iter().filter(|((name, _), _)| *name == call);
+        let answers = of_call.map(|((_, answer), count)| match answer {
+            Answer::Refused(number) => format!("{number}: {count}"),
+            _ => format!("{answer:?} {count}").to_lowercase(),
+        });
+        let answers: Vec<String> = answers.collect();
+        let _ = writeln!(
+            text,
+            "{call:<12}{:>8}  {}",
+            tally.of_call(call),
+            answers.join(", ")
+        );
+    }
+    let _ = writeln!(
+        text,
+        "{:<12}{:>8}  no difference",
+        "together",
+        tally.total()
+    );
+    text
+}
+
+/// What was tried valuation by valuation.
+pub fn evidence(evidence: &Evidence, tally: &Tally) -> String {
+    let accepted = tally
+        .answers
+        .get(&("judge", Answer::Accepted))
+        .copied()
+        .unwrap_or(0);
+    let offered = evidence.played + evidence.played_in_part;
+    let lines = [
+        format!(
+            "accepted tables played at scales 1 to 6: {}, too large at some of them: {}, not offered: {}; plays {}, claims of nodes upheld {}",
+            evidence.played,
+            evidence.played_in_part,
+            accepted.saturating_sub(offered),
+            evidence.plays,
+            evidence.claims
+        ),
+        format!(
+            "of these, refuted when the start's value is lowered by one: {}",
+            evidence.tight
+        ),
+        format!(
+            "their rows and starts searched for a witness in vain: {}, left out as too large: {}",
+            evidence.fruitless, evidence.fruitless_left_out
+        ),
+        format!(
+            "refusals with a witness found: {}; left out as too large: {}; by first scale: {}",
+            listed(&evidence.witnesses),
+            listed(&evidence.witnesses_left_out),
+            listed(&evidence.first_scales)
+        ),
+        format!(
+            "zone questions answered by trying valuations: {}, left out as too large: {}",
+            evidence.zones, evidence.zones_left_out
+        ),
+    ];
+    lines.join("\n") + "\n"
+}
+
+fn listed<K: Display>(counts: &BTreeMap<K, usize>) -> String {
+    let entries: Vec<String> = counts
+        .iter()
+        .map(|(key, count)| format!("{key}: {count}"))
+        .collect();
+    entries.join(", ")
+}
+
+/// What a run that found no fault lacks nevertheless; empty if nothing.
+pub fn lacks(tally: &Tally, evidence: &Evidence) -> Vec<String> {
+    let refused =
+        REFUSALS.map(|number| (tally.of_refusal(number), 1, format!("refusals {number}")));
+    let answered = ANSWERS.map(|(call, answer)| {
+        let count = tally.answers.get(&(call, answer)).copied().unwrap_or(0);
+        (count, 1, format!("answers of {call} {answer:?}"))
+    });
+    let witnessed = [16, 18, 21].map(|number| {
+        let count = evidence.witnesses.get(&number).copied().unwrap_or(0);
+        (count, 1, format!("witnesses for {number}"))
+    });
+    let others = [
+        (tally.total(), 100_000, "comparisons"),
+        (tally.of_call("program"), 5000, "program runs"),
+        (evidence.played, 1000, "tables played"),
+        (evidence.tight, 100, "bounds found to be tight"),
+        (evidence.fruitless, 1000, "accepted rows searched"),
+        (evidence.zones, 1000, "zone questions tried out"),
+    ]
+    .map(|(count, least, what)| (count, least, what.to_string()));
+    let all = refused
+        .into_iter()
+        .chain(answered)
+        .chain(witnessed)
+        .chain(others);
+    let short = all.filter(|(count, least, _)| count < least);
+    short
+        .map(|(count, least, what)| format!("{what}: {count} where {least} are due"))
+        .collect()
+}
+
+#[cfg(test)]
+mod tests {
+    use super::*;
+
+    #[test]
+    fn an_idle_run_lacks_everything() {
+        let lacks = lacks(&Tally::default(), &Evidence::default());
+        assert_eq!(lacks.len(), REFUSALS.len() + ANSWERS.len() + 3 + 6);
+    }
+}

@@ -1,0 +1,130 @@
+//! Shows that the tests can fail: wrong judges are caught, false bounds and refusals are objected to.
+
+use crate::boundaries::large_sum;
+use crate::comparer::Fault;
+use crate::evidence::Evidence;
+use crate::flawed::{flawed_judge, Flaw};
+use crate::plan::{small_pairs, Run, Work};
+use crate::random::Random;
+use crate::reading::{Certificate, Refusal};
+use crate::worked::{cases, MODEL, TABLE};
+use crate::wrong::{self, Wrong};
+
+/// Runs every wrong judge until a difference is found: its name and the comparisons before that.
+pub fn wrong_judges() -> Result<Vec<(String, usize)>, Fault> {
+    wrong::all().into_iter().map(caught).collect()
+}
+
+fn caught(wrong: Wrong) -> Result<(String, usize), Fault> {
+    let mut run = Run::new(&wrong, 3);
+    match run.drawn(&Work::SHORT) {
+        Ok(()) => Err(Fault(format!("not caught: {}", wrong.name))),
+        Err(_) => {
+            let before = run.comparer.tally.total();
+            Ok((wrong.name, before))
+        }
+    }
+}
+
+/// Tells the player and the search for witnesses things that are false of document 01's cases; hands
+/// back how many.
+pub fn false_claims() -> Result<usize, Fault> {
+    let mut evidence = Evidence::default();
+    let right = Certificate {
+        b: 1,
+        whole: 10,
+        nodes: 3,
+    };
+    evidence.of_acceptance(&MODEL, &TABLE, &right)?;
+    let lower = Certificate { b: 0, ..right };
+    let mut told = vec![("b = 0", evidence.of_acceptance(&MODEL, &TABLE, &lower))];
+    for case in cases() {
+        if ["15", "16", "18", "19"]
+            .iter()
+            .any(|number| case.line.contains(number))
+        {
+            let accepted = evidence.of_acceptance(&case.model, &case.table, &right);
+            told.push((case.line, accepted));
+        }
+    }
+    for (number, place) in [(18, 4), (18, 5), (21, 10), (16, 4)] {
+        let refused = evidence.of_refusal(&MODEL, &TABLE, &Refusal { number, place });
+        told.push(("a refusal of M and T", refused));
+    }
+    let (above_2, at_most_3, below_3) = (0x50180FFE, 0x51001003, 0x51081003);
+    let mut question = |first: &[u32], second: Option<&[u32]>, answer| {
+        evidence.of_question(1, first, second, answer)
+    };
+    told.push(("empty", question(&[above_2, below_3], None, true)));
+    told.push(("inside", question(&[at_most_3], Some(&[below_3]), true)));
+    told.push((
+        "not inside",
+        question(&[below_3], Some(&[at_most_3]), false),
+    ));
+    match told.iter().find(|(_, outcome)| outcome.is_ok()) {
+        Some((what, _)) => Err(Fault(format!("no objection to {what}"))),
+        None => Ok(told.len()),
+    }
+}
+
+/// Gives the player and the search for witnesses the answers of each flawed judge, without any
+/// comparison: its name and the answers before one was objected to.
+pub fn flaws_against_player() -> Result<Vec<(String, usize)>, Fault> {
+    // These two lead to no false bound and no false refusal of a row or start: only to another
+    // refusal, or to an acceptance that happens to be sound.
+    let harmless = [Flaw::AsksTheSumFirst, Flaw::ForgivesRowsWithEmptyReach];
+    let flaws = Flaw::ALL
+        .into_iter()
+        .filter(|flaw| !harmless.contains(flaw));
+    flaws.map(objected).collect()
+}
+
+fn objected(flaw: Flaw) -> Result<(String, usize), Fault> {
+    let mut random = Random::new(4);
+    let mut evidence = Evidence::default();
+    let mut answers = 0;
+    for _ in 0..2000 {
+        let mut pairs = small_pairs(&mut random);
+        pairs.push(large_sum(&mut random));
+        for (model, table) in pairs {
+            let outcome = match flawed_judge(flaw, &model, &table) {
+                Ok(certificate) => evidence.of_acceptance(&model, &table, &certificate),
+                Err(refusal) => evidence.of_refusal(&model, &table, &refusal),
+            };
+            if outcome.is_err() {
+                return Ok((format!("{flaw:?}"), answers));
+            }
+            answers += 1;
+        }
+    }
+    Err(Fault(format!("the player does not object to {flaw:?}")))
+}
+
+#[cfg(test)]
+mod tests {
+    use super::*;
+
+    #[test]
+    fn every_wrong_judge_is_caught() {
+        let caught = wrong_judges();
+        assert!(caught.is_ok(), "{caught:?}");
+    }
+
+    #[test]
+    fn the_right_one_passes() {
+        let side = wrong::right("right");
+        let found = Run::new(&side, 3).all(&Work::SHORT);
+        assert!(found.is_ok(), "{found:?}");
+    }
+
+    #[test]
+    fn the_player_objects_to_flawed_judges() {
+        let objected = flaws_against_player();
+        assert!(objected.is_ok(), "{objected:?}");
+    }
+
+    #[test]
+    fn false_claims_are_objected_to() {
+        assert_eq!(false_claims().ok(), Some(12));
+    }
+}
