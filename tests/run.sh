@@ -8,13 +8,13 @@ unset JUDGE_PROGRAM # the proved program, and no other
 build() { # quiet unless it fails
     "$@" >target/log/outside.out 2>&1 || { cat target/log/outside.out; exit 1; }
 }
-build rt staticlib judge_c
+build rt staticlib miss_chance
 build rt check judge_cli
 
 echo '== the Rust package'
 cargo test --release --quiet --locked --offline --manifest-path bindings/rust/Cargo.toml
 echo '== C'
-gcc -std=c99 -Wall -Wextra -pedantic -Werror -Ibindings/c bindings/c/example.c target/staticlib/libjudge_c.a -o target/c_example
+gcc -std=c99 -Wall -Wextra -pedantic -Werror -Ibindings/c bindings/c/example.c target/staticlib/libmiss_chance.a -o target/c_example
 said=$(target/c_example)
 [[ $said = $'ACCEPTED 1 10 3\nREFUSED 19 4' ]] || { echo "the C example said: $said"; exit 1; }
 echo '== ./judge'

@@ -1,8 +1,8 @@
 /*
  * Judges document 01's worked timeline M with its table T, then with T's word 3 made too small. From the repository's root:
  *
- *   rt staticlib judge_c
- *   gcc -std=c99 -Wall -Wextra -pedantic -Ibindings/c bindings/c/example.c target/staticlib/libjudge_c.a -o target/example
+ *   rt staticlib miss_chance
+ *   gcc -std=c99 -Wall -Wextra -pedantic -Ibindings/c bindings/c/example.c target/staticlib/libmiss_chance.a -o target/example
  *   target/example
  *
  * It prints `ACCEPTED 1 10 3` and `REFUSED 19 4`.

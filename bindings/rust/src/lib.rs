@@ -1,6 +1,6 @@
 //! The miss-chance judge: four calls over lists of 32-bit words, as document 01 ("The miss-chance
 //! judge: timelines, tables and the bound they certify") defines them. The work is done by a
-//! verified library, which `rt staticlib judge_c` proves and writes at the repository's root; this
+//! verified library, which `rt staticlib miss_chance` proves and writes at the repository's root; this
 //! crate lends it slices and turns its answers into enums.
 //!
 //! Document 01's worked timeline and its table:

@@ -39,13 +39,13 @@ fn numbers_of_each_answer() {
 }
 
 #[test]
-#[should_panic(expected = "broken link: libjudge_c.a answered zone_empty with [0, 2, 0, 0]")]
+#[should_panic(expected = "broken link: libmiss_chance.a answered zone_empty with [0, 2, 0, 0]")]
 fn neither_yes_nor_no() {
     Emptiness::from_words([0, 2, 0, 0]);
 }
 
 #[test]
-#[should_panic(expected = "broken link: libjudge_c.a answered a call with [0, 4294967296, 10, 3]")]
+#[should_panic(expected = "broken link: libmiss_chance.a answered a call with [0, 4294967296, 10, 3]")]
 fn a_value_over_32_bits() {
     Verdict::from_words([0, 1 << 32, 10, 3]);
 }

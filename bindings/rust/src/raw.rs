@@ -105,7 +105,7 @@ pub(crate) fn zone_inside(clocks: u32, first: &[u32], second: &[u32]) -> Words {
 fn checked(written: bool, answer: Words) -> Words {
     assert!(
         written,
-        "broken link: libjudge_c.a wrote no answer to four words"
+        "broken link: libmiss_chance.a wrote no answer to four words"
     );
     answer
 }

@@ -19,6 +19,6 @@ pub(crate) fn number<T: TryFrom<u64>>(words: Words, index: usize) -> T {
 /// The library gave what document 01 does not have.
 pub(crate) fn broken(call: &str, words: Words) -> ! {
     panic!(
-        "broken link: libjudge_c.a answered {call} with {words:?}, which document 01 does not have"
+        "broken link: libmiss_chance.a answered {call} with {words:?}, which document 01 does not have"
     )
 }

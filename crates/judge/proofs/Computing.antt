@@ -36,18 +36,18 @@ use Rattle.judge.proofs.Answering.{ModelAccepted, startAt, model-refuse
 -- the refusal of a part, or what comes behind it
 unfoldable pub behindModel : ModelAnswer → Verdict → Verdict
 behindModel (model.Accepted c) v = v
-behindModel (model.BadKind p) v = verdict.BadModelKind p
-behindModel (model.BadField p) v = verdict.BadModelField p
-behindModel (model.OverLimit p) v = verdict.OverModelLimit p
+behindModel (model.BadModelKind p) v = verdict.BadModelKind p
+behindModel (model.BadModelField p) v = verdict.BadModelField p
+behindModel (model.OverModelLimit p) v = verdict.OverModelLimit p
 behindModel (model.BadWeights p) v = verdict.BadWeights p
 behindModel (model.NoLocation p) v = verdict.NoLocation p
 behindModel (model.NoStart p) v = verdict.NoStart p
 
 unfoldable pub behindWords : TableAnswer → Verdict → Verdict
 behindWords table.Good v = v
-behindWords (table.BadKind p) v = verdict.BadKind p
-behindWords (table.BadField p) v = verdict.BadField p
-behindWords (table.OverLimit p) v = verdict.OverLimit p
+behindWords (table.BadTableKind p) v = verdict.BadTableKind p
+behindWords (table.BadTableField p) v = verdict.BadTableField p
+behindWords (table.OverTableLimit p) v = verdict.OverTableLimit p
 behindWords (table.NoNode p) v = verdict.NoNode p
 
 unfoldable pub behindNodes : Finding → Verdict → Verdict
@@ -123,9 +123,9 @@ module _ (words list : List ℕ) (r : ModelRead) (t : TableRead) (listed : ReadF
     by-words : (a : TableAnswer) → t .answer ≡ a → Right (behindWords a (behindNodes walks start))
     unfolding behindWords tableAnswer verdictAnswer
     by-words table.Good q = by-finding q walks refl
-    by-words (table.BadKind p) q = ill (table.BadKind p) (verdict.BadKind p) 11 p q refl refl
-    by-words (table.BadField p) q = ill (table.BadField p) (verdict.BadField p) 12 p q refl refl
-    by-words (table.OverLimit p) q = ill (table.OverLimit p) (verdict.OverLimit p) 13 p q refl refl
+    by-words (table.BadTableKind p) q = ill (table.BadTableKind p) (verdict.BadTableKind p) 11 p q refl refl
+    by-words (table.BadTableField p) q = ill (table.BadTableField p) (verdict.BadTableField p) 12 p q refl refl
+    by-words (table.OverTableLimit p) q = ill (table.OverTableLimit p) (verdict.OverTableLimit p) 13 p q refl refl
     by-words (table.NoNode p) q = ill (table.NoNode p) (verdict.NoNode p) 14 p q refl refl
 
   module _ (reads : ReadModel words (modelAnswer (r .answer))) (index : IndexedWhere words r) where
@@ -136,9 +136,9 @@ module _ (words list : List ℕ) (r : ModelRead) (t : TableRead) (listed : ReadF
     by-model : (a : ModelAnswer) → r .answer ≡ a → Right (behindModel a (behindWords (t .answer) (behindNodes walks start)))
     unfolding behindModel modelAnswer verdictAnswer
     by-model (model.Accepted c) q = by-words (record { reads = reads; index = index; counts = c; accepts = q }) (t .answer) refl
-    by-model (model.BadKind p) q = bad (model.BadKind p) (verdict.BadModelKind p) 1 p q refl refl
-    by-model (model.BadField p) q = bad (model.BadField p) (verdict.BadModelField p) 2 p q refl refl
-    by-model (model.OverLimit p) q = bad (model.OverLimit p) (verdict.OverModelLimit p) 3 p q refl refl
+    by-model (model.BadModelKind p) q = bad (model.BadModelKind p) (verdict.BadModelKind p) 1 p q refl refl
+    by-model (model.BadModelField p) q = bad (model.BadModelField p) (verdict.BadModelField p) 2 p q refl refl
+    by-model (model.OverModelLimit p) q = bad (model.OverModelLimit p) (verdict.OverModelLimit p) 3 p q refl refl
     by-model (model.BadWeights p) q = bad (model.BadWeights p) (verdict.BadWeights p) 4 p q refl refl
     by-model (model.NoLocation p) q = bad (model.NoLocation p) (verdict.NoLocation p) 5 p q refl refl
     by-model (model.NoStart p) q = bad (model.NoStart p) (verdict.NoStart p) 6 p q refl refl

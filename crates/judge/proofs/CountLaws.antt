@@ -1,13 +1,14 @@
 -- What a wrong definition of the weighted count or of the certified fraction would break: a count is at most D to the power n, the certified
--- fraction at most 1, the count for no steps 1 at a target and 0 elsewhere; and what document 01's timeline comes to. Assumes nothing.
+-- fraction at most 1, the count for no steps 1 at a target and 0 elsewhere; what document 01's timeline comes to; and what a scheduler sees.
+-- Assumes nothing.
 use Prim.Native.Nat.{ℕ, zero, suc, _+_, _*_, _^_, _≤_, zero-le}
 use mathlib.Core.Path.{_≡_, refl}
-use mathlib.Core.Bool.{true, false}
-use mathlib.Core.List.{List, [], _∷_, _++_}
+use mathlib.Core.Bool.{Bool, true, false, cond, _&&_}
+use mathlib.Core.List.{List, [], _∷_, reverse}
 use mathlib.Core.Option.{some}
 use native.Mathlib.Nat.{le-refl, le-trans, le-of-eq, mul-le-mul-left, add-le-add, add-mul, pow-zero, pow-succ'}
-use lib.Dec.{lit≤}
-use lib.ListN.{getElem?, set}
+use lib.Dec.{eqb, leb, lit≤}
+use lib.ListN.{length, getD, getElem?, set}
 use Rattle.zone.proofs.Bools.{by-test}
 use Rattle.zone.specs.Scale.{read, holds?, in?, within}
 use Rattle.zone.specs.Moves.{delayed, masked?, reset}
@@ -19,9 +20,9 @@ use Rattle.model.proofs.ZoneLaws.{All, more}
 use Rattle.model.proofs.WellFormed.{weigh, WellFormed}
 use Rattle.table.specs.Table.{Table}
 use Rattle.judge.specs.Choices.{later, landing, invariant?, throughout?, land?, allowed?}
-use Rattle.judge.specs.Schedulers.{choose, Scheduler, edgesCount, choiceCount, moveCount, atTarget?, weightedCount}
+use Rattle.judge.specs.Schedulers.{stop, choose, Scheduler, edgesCount, choiceCount, moveCount, atTarget?, weightedCount}
 use Rattle.judge.specs.Acceptance.{Accepted, certified}
-use Rattle.judge.proofs.SchedulerLaws.{by-move, some-one, none-some}
+use Rattle.judge.proofs.SchedulerLaws.{by-step, some-one, none-some}
 
 -- ---- a weighted count is a part of D to the power n
 
@@ -42,18 +43,13 @@ pub count-most : (M : Model) → WellFormed M → (k : ℕ) (σ : Scheduler) (n 
 unfolding weightedCount
 count-most M formed k σ zero before s = by-test (λ (c : ℕ). c ≤ M .denominator ^ zero) (atTarget? M s) _ _ (λ y. le-refl _) (λ y. zero-le)
 count-most M formed k σ (suc n) before s =
-    by-test (λ (c : ℕ). c ≤ M .denominator ^ suc n) (atTarget? M s) _ _ (λ y. le-refl _)
-    λ y. by-move M k s (weightedCount M k σ n history) (λ c. c ≤ M .denominator ^ suc n) (σ history) zero-le
-    (λ t a A e z. chosen (λ next. count-most M formed k σ n history next) (later s t) A
+    by-step M k σ n before s (λ c. c ≤ M .denominator ^ suc n) (λ y. le-refl _) zero-le
+    (λ y history t a A e z. chosen (weightedCount M k σ n history) (count-most M formed k σ n history) (later s t) A
     (all-there (locationAt M (s .location) .actions) a A (formed .actions (s .location)) e .weights))
   where
-    history : List State
-    history = before ++ (s ∷ [])
-
-    chosen : ((next : State) → weightedCount M k σ n history next ≤ M .denominator ^ n) → (u : State) (A : Action) →
-        weigh (A .edges) ≡ M .denominator → edgesCount (weightedCount M k σ n history) u (A .edges) ≤ M .denominator ^ suc n
-    chosen all u A w =
-        le-trans (edges-most (weightedCount M k σ n history) u (M .denominator ^ n) all (A .edges)) (le-of-eq (rw (w, pow-succ')))
+    chosen : (rest : State → ℕ) → ((next : State) → rest next ≤ M .denominator ^ n) → (u : State) (A : Action) →
+        weigh (A .edges) ≡ M .denominator → edgesCount rest u (A .edges) ≤ M .denominator ^ suc n
+    chosen rest all u A w = le-trans (edges-most rest u (M .denominator ^ n) all (A .edges)) (le-of-eq (rw (w, pow-succ')))
 
 -- ---- the certified fraction is at most 1
 
@@ -105,3 +101,61 @@ unfolding
     among kindOf boundOf partsWith partsOf modelOf locationAt read holds? in? delayed masked? reset
     later landing invariant? throughout? land? allowed? edgesCount choiceCount moveCount atTarget? weightedCount
 attained = (refl, refl, refl, refl, refl, refl)
+
+-- ---- what a scheduler sees: every state so far, in their order, the present one last. A list that is empty, reversed, or has lost a state gives
+-- another count
+
+-- one action: of 3, a weight of 2 reaches the target and a weight of 1 comes back, with the clock running on
+abbrev pub returning : List ℕ
+returning =
+    0x11100003 ∷ 0x20000000 ∷ 0x30000000 ∷ 0x40000001 ∷ 0x40010002 ∷ 0x20000001 ∷ 0x60000000 ∷ 0x51001000 ∷ []
+
+-- at the location of that action, with the clock at x
+abbrev pub at : ℕ → State
+at x = record { location = 0; valuation = λ i. x }
+
+-- waits one unit and takes the action where a test of the list holds, and stops elsewhere
+abbrev pub watches : (List State → Bool) → Scheduler
+watches test? history = cond (test? history) (choose (record { delay = 1; action = 0 })) stop
+
+-- for three steps, from the start state alone. A first step counts 2 × 9 = 18, a second 1 × 2 × 3 = 6 more, a third 1 × 1 × 2 = 2 more
+abbrev pub seen : (List State → Bool) → ℕ
+seen test? = weightedCount (modelOf returning) 1 (watches test?) 3 [] (at 0)
+
+-- the states of the list read x, x + 1, .. on clock 1
+unfoldable pub rising? : ℕ → List State → Bool
+rising? x [] = true
+rising? x (s ∷ ss) = eqb (s .valuation 1) x && rising? (suc x) ss
+
+-- the first state of the list has clock 1 at 0
+abbrev pub began? : List State → Bool
+began? history = eqb (getD history 0 (at 9) .valuation 1) 0
+
+pub start-starts : IsStart (modelOf returning) 1 (at 0)
+unfolding among kindOf boundOf partsWith partsOf modelOf locationAt read holds? in? within
+start-starts = record { location = refl; state = record { exists = lit≤ tt; invariant = tt }; bounds = tt }
+
+-- its length: at most 0, 1, 2 or 3 states
+pub seen-length :
+    (seen (λ h. leb (length h) 0) ≡ 0) × (seen (λ h. leb (length h) 1) ≡ 18) × (seen (λ h. leb (length h) 2) ≡ 24) ×
+    (seen (λ h. leb (length h) 3) ≡ 26)
+unfolding
+    among kindOf boundOf partsWith partsOf modelOf locationAt read holds? in? delayed masked? reset
+    later landing invariant? throughout? land? allowed? edgesCount choiceCount moveCount atTarget? weightedCount
+seen-length = (refl, refl, refl, refl)
+
+-- an earlier state: with the start state before it, the state that reads 1 has two steps more, and without it none
+pub seen-earlier :
+    (seen began? ≡ 26) × (weightedCount (modelOf returning) 1 (watches began?) 2 (at 0 ∷ []) (at 1) ≡ 8) ×
+    (weightedCount (modelOf returning) 1 (watches began?) 2 [] (at 1) ≡ 0)
+unfolding
+    among kindOf boundOf partsWith partsOf modelOf locationAt read holds? in? delayed masked? reset
+    later landing invariant? throughout? land? allowed? edgesCount choiceCount moveCount atTarget? weightedCount
+seen-earlier = (refl, refl, refl)
+
+-- the order: rising from the start on, and not the other way round
+pub seen-order : (seen (rising? 0) ≡ 26) × (seen (λ h. rising? 0 (reverse h)) ≡ 18)
+unfolding
+    among kindOf boundOf partsWith partsOf modelOf locationAt read holds? in? delayed masked? reset
+    later landing invariant? throughout? land? allowed? edgesCount choiceCount moveCount atTarget? weightedCount rising?
+seen-order = (refl, refl)

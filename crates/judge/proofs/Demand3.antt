@@ -18,7 +18,7 @@ use Rattle.table.specs.Table.{Successor, Row, blockedRow, successorRow, Table, 
 use Rattle.judge.specs.Choices.{later, landing, invariant?, throughout?, land?, allowed?}
 use Rattle.judge.specs.Schedulers.{Scheduler, edgesCount, atTarget?, weightedCount, BoundsEvery}
 use Rattle.judge.specs.Acceptance.{Reach, Pairwise, rowSum, SuccessorFits, RowFits, startValuations, Accepted, certified}
-use Rattle.judge.proofs.SchedulerLaws.{by-move, some-one, none-some}
+use Rattle.judge.proofs.SchedulerLaws.{by-step, some-one, none-some}
 
 -- the node numbered n holds the state s
 record Holds (W : Table) (k n : ℕ) (s : State) : Type 0 where
@@ -129,14 +129,9 @@ module _ (M : Model) (W : Table) (ok : Accepted M W) (k : ℕ) (positive : 1 ≤
       by-test (λ (c : ℕ). c * W .whole ≤ nodeAt W b .value * M .denominator ^ zero) (atTarget? M s) _ _ (at-target zero b s H)
       (λ y. rw zero-mul zero-le)
   bounded (suc n) b before s H =
-      by-test (λ (c : ℕ). c * W .whole ≤ nodeAt W b .value * M .denominator ^ suc n) (atTarget? M s) _ _ (at-target (suc n) b s H)
-      λ y. by-move M k s (weightedCount M k σ n history) (λ c. c * W .whole ≤ nodeAt W b .value * M .denominator ^ suc n) (σ history)
-      (rw zero-mul zero-le)
-      (λ t a A e z. let row = row-for b s H y a A e in
+      by-step M k σ n before s (λ c. c * W .whole ≤ nodeAt W b .value * M .denominator ^ suc n) (at-target (suc n) b s H) (rw zero-mul zero-le)
+      (λ y history t a A e z. let row = row-for b s H y a A e in
       onward n (bounded n) b history A (later s t) (reached b s H A t (rw z tt)) (row .0) (row .1))
-    where
-      history : List State
-      history = before ++ (s ∷ [])
 
 -- a start state's valuation is a start valuation
 starts : (M : Model) (k : ℕ) (s : State) → IsStart M k s → startValuations M k (s .valuation)

@@ -34,9 +34,9 @@ refuses n p = record { number = n; place = p; says = refl }
 pub model-refuses : (a : ModelAnswer) → ((c : Counts) → a ≡ model.Accepted c → ⊥) → Refuses (modelAnswer a)
 unfolding modelAnswer
 model-refuses (model.Accepted c) h = absurd (h c refl)
-model-refuses (model.BadKind p) h = refuses 1 p
-model-refuses (model.BadField p) h = refuses 2 p
-model-refuses (model.OverLimit p) h = refuses 3 p
+model-refuses (model.BadModelKind p) h = refuses 1 p
+model-refuses (model.BadModelField p) h = refuses 2 p
+model-refuses (model.OverModelLimit p) h = refuses 3 p
 model-refuses (model.BadWeights p) h = refuses 4 p
 model-refuses (model.NoLocation p) h = refuses 5 p
 model-refuses (model.NoStart p) h = refuses 6 p
@@ -44,9 +44,9 @@ model-refuses (model.NoStart p) h = refuses 6 p
 pub words-refuse : (a : TableAnswer) → (a ≡ table.Good → ⊥) → Refuses (tableAnswer a)
 unfolding tableAnswer
 words-refuse table.Good h = absurd (h refl)
-words-refuse (table.BadKind p) h = refuses 11 p
-words-refuse (table.BadField p) h = refuses 12 p
-words-refuse (table.OverLimit p) h = refuses 13 p
+words-refuse (table.BadTableKind p) h = refuses 11 p
+words-refuse (table.BadTableField p) h = refuses 12 p
+words-refuse (table.OverTableLimit p) h = refuses 13 p
 words-refuse (table.NoNode p) h = refuses 14 p
 
 pub finding-refuses : (f : Finding) → (f ≡ finding.None → ⊥) → Refuses (findingAnswer f)

@@ -22,9 +22,9 @@ verdictOf (refused n p) =
     (cond (eqb n 4) (verdict.BadWeights p)
     (cond (eqb n 5) (verdict.NoLocation p)
     (cond (eqb n 6) (verdict.NoStart p)
-    (cond (eqb n 11) (verdict.BadKind p)
-    (cond (eqb n 12) (verdict.BadField p)
-    (cond (eqb n 13) (verdict.OverLimit p)
+    (cond (eqb n 11) (verdict.BadTableKind p)
+    (cond (eqb n 12) (verdict.BadTableField p)
+    (cond (eqb n 13) (verdict.OverTableLimit p)
     (cond (eqb n 14) (verdict.NoNode p)
     (cond (eqb n 15) (verdict.BadTargetValue p)
     (cond (eqb n 16) (verdict.NotBlocked p)
@@ -42,9 +42,9 @@ told (verdict.OverModelLimit p) = refl
 told (verdict.BadWeights p) = refl
 told (verdict.NoLocation p) = refl
 told (verdict.NoStart p) = refl
-told (verdict.BadKind p) = refl
-told (verdict.BadField p) = refl
-told (verdict.OverLimit p) = refl
+told (verdict.BadTableKind p) = refl
+told (verdict.BadTableField p) = refl
+told (verdict.OverTableLimit p) = refl
 told (verdict.NoNode p) = refl
 told (verdict.BadTargetValue p) = refl
 told (verdict.NotBlocked p) = refl

@@ -29,9 +29,9 @@ pub enum Verdict {
     BadWeights(usize),
     NoLocation(usize),
     NoStart(usize),
-    BadKind(usize),
-    BadField(usize),
-    OverLimit(usize),
+    BadTableKind(usize),
+    BadTableField(usize),
+    OverTableLimit(usize),
     NoNode(usize),
     BadTargetValue(usize),
     NotBlocked(usize),
@@ -47,9 +47,9 @@ pub(crate) fn model_refused(answer: ModelAnswer) -> Verdict
     ensures { λ r. ⌜ HandsOn (modelAnswer answer) (verdictAnswer r) ⌝ }
 {
     match answer {
-        ModelAnswer::BadKind(place) => Verdict::BadModelKind(place),
-        ModelAnswer::BadField(place) => Verdict::BadModelField(place),
-        ModelAnswer::OverLimit(place) => Verdict::OverModelLimit(place),
+        ModelAnswer::BadModelKind(place) => Verdict::BadModelKind(place),
+        ModelAnswer::BadModelField(place) => Verdict::BadModelField(place),
+        ModelAnswer::OverModelLimit(place) => Verdict::OverModelLimit(place),
         ModelAnswer::BadWeights(place) => Verdict::BadWeights(place),
         ModelAnswer::NoLocation(place) => Verdict::NoLocation(place),
         ModelAnswer::NoStart(place) => Verdict::NoStart(place),
@@ -62,9 +62,9 @@ pub(crate) fn words_refused(answer: TableAnswer) -> Verdict
     ensures { λ r. ⌜ HandsOn (tableAnswer answer) (verdictAnswer r) ⌝ }
 {
     match answer {
-        TableAnswer::BadKind(place) => Verdict::BadKind(place),
-        TableAnswer::BadField(place) => Verdict::BadField(place),
-        TableAnswer::OverLimit(place) => Verdict::OverLimit(place),
+        TableAnswer::BadTableKind(place) => Verdict::BadTableKind(place),
+        TableAnswer::BadTableField(place) => Verdict::BadTableField(place),
+        TableAnswer::OverTableLimit(place) => Verdict::OverTableLimit(place),
         TableAnswer::NoNode(place) => Verdict::NoNode(place),
         TableAnswer::Good => Verdict::NoNode(0), // no refusal: never asked for
     }

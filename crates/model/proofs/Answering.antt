@@ -110,8 +110,8 @@ module _ (words : List ℕ) (run : Run nothing 0 words) where
       (indexed words a run)
 
   -- which answer stands beside the index has no part in what the index says
-  x : Indexed M (readOf (ended words) (answer.BadKind 0))
-  x = end-indexed (answer.BadKind 0)
+  x : Indexed M (readOf (ended words) (answer.BadModelKind 0))
+  x = end-indexed (answer.BadModelKind 0)
 
   starts : seenEnd nothing 0 words .start ≡ M .start
   starts = sym counted ∙ x .start

@@ -15,15 +15,15 @@ use Rattle.model.specs.declared.read.ModelAnswer.the-variants as answer
 answerTold : Answer Counts → ModelAnswer
 answerTold (accepted counts) = answer.Accepted counts
 answerTold (refused n p) =
-    cond (eqb n 1) (answer.BadKind p) (cond (eqb n 2) (answer.BadField p) (cond (eqb n 3) (answer.OverLimit p)
+    cond (eqb n 1) (answer.BadModelKind p) (cond (eqb n 2) (answer.BadModelField p) (cond (eqb n 3) (answer.OverModelLimit p)
     (cond (eqb n 4) (answer.BadWeights p) (cond (eqb n 5) (answer.NoLocation p) (answer.NoStart p)))))
 
 told : (a : ModelAnswer) → answerTold (modelAnswer a) ≡ a
 unfolding answerTold modelAnswer
 told (answer.Accepted counts) = refl
-told (answer.BadKind p) = refl
-told (answer.BadField p) = refl
-told (answer.OverLimit p) = refl
+told (answer.BadModelKind p) = refl
+told (answer.BadModelField p) = refl
+told (answer.OverModelLimit p) = refl
 told (answer.BadWeights p) = refl
 told (answer.NoLocation p) = refl
 told (answer.NoStart p) = refl

@@ -207,7 +207,7 @@ well-formed words r e = record {
 
     locations : countOf (number location) words ≡ length (modelOf words .locations)
     locations = sym (ap (λ (c : Counts). c .locations) (counts-end words r))
-        ∙ sym (numbers-end nothing emptyIndex 0 words .locations) ∙ indexed words (answer.BadKind 0) r .locations
+        ∙ sym (numbers-end nothing emptyIndex 0 words .locations) ∙ indexed words (answer.BadModelKind 0) r .locations
 
     parts : Formed (modelOf words) nothing (partsOf words)
     parts =

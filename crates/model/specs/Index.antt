@@ -130,7 +130,7 @@ wholeAnswer missing.None empty s = cond empty (answer.NoStart (s .place)) (answe
 
 unfoldable pub answerOf : Fault → ℕ → ModelAnswer → ModelAnswer
 answerOf fault.None p whole = whole
-answerOf fault.Kind p whole = answer.BadKind p
-answerOf fault.Field p whole = answer.BadField p
-answerOf fault.Limit p whole = answer.OverLimit p
+answerOf fault.Kind p whole = answer.BadModelKind p
+answerOf fault.Field p whole = answer.BadModelField p
+answerOf fault.Limit p whole = answer.OverModelLimit p
 answerOf fault.Weights p whole = answer.BadWeights p

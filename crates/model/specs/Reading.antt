@@ -84,9 +84,9 @@ pub record ReadModel (words : List ℕ) (answer : Answer Counts) : Type 0 where
 -- what each case of an answer says in the document's numbers and values
 unfoldable pub modelAnswer : ModelAnswer → Answer Counts
 modelAnswer (answer.Accepted counts) = accepted counts
-modelAnswer (answer.BadKind p) = refused 1 p
-modelAnswer (answer.BadField p) = refused 2 p
-modelAnswer (answer.OverLimit p) = refused 3 p
+modelAnswer (answer.BadModelKind p) = refused 1 p
+modelAnswer (answer.BadModelField p) = refused 2 p
+modelAnswer (answer.OverModelLimit p) = refused 3 p
 modelAnswer (answer.BadWeights p) = refused 4 p
 modelAnswer (answer.NoLocation p) = refused 5 p
 modelAnswer (answer.NoStart p) = refused 6 p

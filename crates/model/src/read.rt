@@ -21,9 +21,9 @@ pub struct Counts {
 // The counts of a model, or the refusal with its place.
 pub enum ModelAnswer {
     Accepted(Counts),
-    BadKind(usize),
-    BadField(usize),
-    OverLimit(usize),
+    BadModelKind(usize),
+    BadModelField(usize),
+    OverModelLimit(usize),
     BadWeights(usize),
     NoLocation(usize),
     NoStart(usize),
@@ -61,9 +61,9 @@ pub(crate) fn answer_of(fault: Fault, place: usize, whole: ModelAnswer) -> Model
 {
     match fault {
         Fault::None => whole,
-        Fault::Kind => ModelAnswer::BadKind(place),
-        Fault::Field => ModelAnswer::BadField(place),
-        Fault::Limit => ModelAnswer::OverLimit(place),
+        Fault::Kind => ModelAnswer::BadModelKind(place),
+        Fault::Field => ModelAnswer::BadModelField(place),
+        Fault::Limit => ModelAnswer::OverModelLimit(place),
         Fault::Weights => ModelAnswer::BadWeights(place),
     }
 }

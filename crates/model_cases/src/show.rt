@@ -158,9 +158,9 @@ pub(crate) fn answer(list: &[u32]) {
     let answer = read::read_model(list);
     match answer {
         ModelAnswer::Accepted(counts) => accepted(counts.locations, counts.actions, counts.edges),
-        ModelAnswer::BadKind(place) => refused(1, place),
-        ModelAnswer::BadField(place) => refused(2, place),
-        ModelAnswer::OverLimit(place) => refused(3, place),
+        ModelAnswer::BadModelKind(place) => refused(1, place),
+        ModelAnswer::BadModelField(place) => refused(2, place),
+        ModelAnswer::OverModelLimit(place) => refused(3, place),
         ModelAnswer::BadWeights(place) => refused(4, place),
         ModelAnswer::NoLocation(place) => refused(5, place),
         ModelAnswer::NoStart(place) => refused(6, place),

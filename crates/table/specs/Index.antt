@@ -67,9 +67,9 @@ numbersAnswer nodes p (w ∷ ws) =
 
 unfoldable pub answerOf : Fault → ℕ → TableAnswer → TableAnswer
 answerOf fault.None p whole = whole
-answerOf fault.Kind p whole = answer.BadKind p
-answerOf fault.Field p whole = answer.BadField p
-answerOf fault.Limit p whole = answer.OverLimit p
+answerOf fault.Kind p whole = answer.BadTableKind p
+answerOf fault.Field p whole = answer.BadTableField p
+answerOf fault.Limit p whole = answer.OverTableLimit p
 
 -- ---- what reading a table leaves: the answer, and beside it what the pass comes to
 

@@ -122,7 +122,7 @@ readChecks M words = wordsChecks M (wholeOf (getD words 0 0)) [] words ++ number
 -- what each case of an answer says in the document's numbers
 unfoldable pub tableAnswer : TableAnswer → Answer (Unit {0})
 tableAnswer answer.Good = accepted tt
-tableAnswer (answer.BadKind p) = refused 11 p
-tableAnswer (answer.BadField p) = refused 12 p
-tableAnswer (answer.OverLimit p) = refused 13 p
+tableAnswer (answer.BadTableKind p) = refused 11 p
+tableAnswer (answer.BadTableField p) = refused 12 p
+tableAnswer (answer.OverTableLimit p) = refused 13 p
 tableAnswer (answer.NoNode p) = refused 14 p

@@ -14,9 +14,9 @@ use zone::zones::Zone;
 // Whether the words of a table are good, or the refusal with its place.
 pub enum TableAnswer {
     Good,
-    BadKind(usize),
-    BadField(usize),
-    OverLimit(usize),
+    BadTableKind(usize),
+    BadTableField(usize),
+    OverTableLimit(usize),
     NoNode(usize),
 }
 
@@ -53,9 +53,9 @@ pub(crate) fn answer_of(fault: Fault, place: usize, list: &[u32], nodes: usize) 
 {
     match fault {
         Fault::None => numbers_answer(list, nodes),
-        Fault::Kind => TableAnswer::BadKind(place),
-        Fault::Field => TableAnswer::BadField(place),
-        Fault::Limit => TableAnswer::OverLimit(place),
+        Fault::Kind => TableAnswer::BadTableKind(place),
+        Fault::Field => TableAnswer::BadTableField(place),
+        Fault::Limit => TableAnswer::OverTableLimit(place),
     }
 }
 

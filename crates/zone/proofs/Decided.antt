@@ -79,7 +79,7 @@ module _ (C : ℕ) (words : List ℕ) where
     where
       by : (g e : Bool) → readZone C words .good ≡ g → empty? (tightened (readZone C words .zone)) ≡ e →
           First (boundChecks 32 C 0 words) Empties
-          (emptinessAnswer (cond g (cond e emptiness.Empty emptiness.NotEmpty) (emptiness.BadWord (readZone C words .place))))
+          (emptinessAnswer (cond g (cond e emptiness.Empty emptiness.NotEmpty) (emptiness.BadBound (readZone C words .place))))
       by false e p q = read-bad 32 C Empties words 0 universe p
       by true true p q = first-all (boundChecks 32 C 0 words) Empties true (read-good 32 C words 0 universe p)
           ((λ _. empty-yes (read-stands C h words p) q), λ _. tt)
@@ -116,8 +116,8 @@ module _ (C : ℕ) (first second : List ℕ) where
           inside? (tightened (readZone C first .zone)) (readZone C second .zone) ≡ i →
           First (boundChecks 32 C 0 first ++ boundChecks 33 C 0 second) Includes
           (inclusionAnswer (cond g
-          (cond f (cond (e || i) inclusion.Inside inclusion.NotInside) (inclusion.BadSecond (readZone C second .place)))
-          (inclusion.BadFirst (readZone C first .place))))
+          (cond f (cond (e || i) inclusion.Inside inclusion.NotInside) (inclusion.BadSecondBound (readZone C second .place)))
+          (inclusion.BadBound (readZone C first .place))))
       by false f e i p q r s =
           first-before (boundChecks 32 C 0 first) (boundChecks 33 C 0 second) Includes Includes 32 (readZone C first .place)
           (read-bad 32 C Includes first 0 universe p)
@@ -160,7 +160,7 @@ module _ (C : ℕ) (words : List ℕ) where
   clocks-empty e = simp e
 
   module _ {r : ZoneRead} where
-    pub bad-empty : clocks? C ≡ true → r ≡ readZone C words → r .good ≡ false → emptiness.BadWord (r .place) ≡ decideEmpty C words
+    pub bad-empty : clocks? C ≡ true → r ≡ readZone C words → r .good ≡ false → emptiness.BadBound (r .place) ≡ decideEmpty C words
     unfolding decideEmpty emptyFrom
     bad-empty h e b = simp (h, sym e, b)
 
@@ -182,12 +182,12 @@ module _ (C : ℕ) (first second : List ℕ) where
   clocks-inside e = simp e
 
   module _ {r : ZoneRead} where
-    pub bad-first : clocks? C ≡ true → r ≡ readZone C first → r .good ≡ false → inclusion.BadFirst (r .place) ≡ decideInside C first second
+    pub bad-first : clocks? C ≡ true → r ≡ readZone C first → r .good ≡ false → inclusion.BadBound (r .place) ≡ decideInside C first second
     unfolding decideInside insideFrom
     bad-first h e b = simp (h, sym e, b)
 
     module _ {s : ZoneRead} (g : GoodRead C first r) where
-      pub bad-second : s ≡ readZone C second → s .good ≡ false → inclusion.BadSecond (s .place) ≡ decideInside C first second
+      pub bad-second : s ≡ readZone C second → s .good ≡ false → inclusion.BadSecondBound (s .place) ≡ decideInside C first second
       unfolding decideInside insideFrom
       bad-second e b = simp (g .clocks, sym (g .reads), g .good, sym e, b)
 

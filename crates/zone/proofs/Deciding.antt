@@ -12,7 +12,7 @@ use Rattle.zone.specs.declared.questions.Inclusion.the-variants as inclu
 use Rattle.zone.specs.declared.questions.ZoneRead.{ZoneRead}
 
 unfoldable pub emptyFrom : ZoneRead → Emptiness
-emptyFrom r = cond (r .good) (cond (empty? (tightened (r .zone))) emptiness.Empty emptiness.NotEmpty) (emptiness.BadWord (r .place))
+emptyFrom r = cond (r .good) (cond (empty? (tightened (r .zone))) emptiness.Empty emptiness.NotEmpty) (emptiness.BadBound (r .place))
 
 unfoldable pub decideEmpty : ℕ → List ℕ → Emptiness
 decideEmpty C words = cond (clocks? C) (emptyFrom (readZone C words)) emptiness.BadClocks
@@ -22,8 +22,8 @@ insideFrom r s =
     cond (r .good)
     (cond (s .good)
     (cond (empty? (tightened (r .zone)) || inside? (tightened (r .zone)) (s .zone)) inclusion.Inside inclusion.NotInside)
-    (inclusion.BadSecond (s .place)))
-    (inclusion.BadFirst (r .place))
+    (inclusion.BadSecondBound (s .place)))
+    (inclusion.BadBound (r .place))
 
 unfoldable pub decideInside : ℕ → List ℕ → List ℕ → Inclusion
 decideInside C first second = cond (clocks? C) (insideFrom (readZone C first) (readZone C second)) inclusion.BadClocks

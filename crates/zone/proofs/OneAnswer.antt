@@ -19,27 +19,27 @@ use Rattle.zone.proofs.CheckLaws.{first-one, one-bool, tell}
 emptinessOf : Answer Bool → Emptiness
 emptinessOf (accepted true) = emptiness.Empty
 emptinessOf (accepted false) = emptiness.NotEmpty
-emptinessOf (refused n p) = cond (eqb n 31) emptiness.BadClocks (emptiness.BadWord p)
+emptinessOf (refused n p) = cond (eqb n 31) emptiness.BadClocks (emptiness.BadBound p)
 
 told-emptiness : (a : Emptiness) → emptinessOf (emptinessAnswer a) ≡ a
 unfolding emptinessOf emptinessAnswer
 told-emptiness emptiness.Empty = refl
 told-emptiness emptiness.NotEmpty = refl
 told-emptiness emptiness.BadClocks = refl
-told-emptiness (emptiness.BadWord p) = refl
+told-emptiness (emptiness.BadBound p) = refl
 
 inclusionOf : Answer Bool → Inclusion
 inclusionOf (accepted true) = inclusion.Inside
 inclusionOf (accepted false) = inclusion.NotInside
-inclusionOf (refused n p) = cond (eqb n 31) inclusion.BadClocks (cond (eqb n 32) (inclusion.BadFirst p) (inclusion.BadSecond p))
+inclusionOf (refused n p) = cond (eqb n 31) inclusion.BadClocks (cond (eqb n 32) (inclusion.BadBound p) (inclusion.BadSecondBound p))
 
 told-inclusion : (a : Inclusion) → inclusionOf (inclusionAnswer a) ≡ a
 unfolding inclusionOf inclusionAnswer
 told-inclusion inclusion.Inside = refl
 told-inclusion inclusion.NotInside = refl
 told-inclusion inclusion.BadClocks = refl
-told-inclusion (inclusion.BadFirst p) = refl
-told-inclusion (inclusion.BadSecond p) = refl
+told-inclusion (inclusion.BadBound p) = refl
+told-inclusion (inclusion.BadSecondBound p) = refl
 
 pub empty-one : (C : ℕ) (words : List ℕ) (a b : Emptiness) → AskedEmpty C words (emptinessAnswer a) → AskedEmpty C words (emptinessAnswer b) → a ≡ b
 empty-one C words a b p q =

@@ -40,11 +40,11 @@ unfoldable pub emptinessAnswer : Emptiness → Answer Bool
 emptinessAnswer emptiness.Empty = accepted true
 emptinessAnswer emptiness.NotEmpty = accepted false
 emptinessAnswer emptiness.BadClocks = refused 31 0
-emptinessAnswer (emptiness.BadWord p) = refused 32 p
+emptinessAnswer (emptiness.BadBound p) = refused 32 p
 
 unfoldable pub inclusionAnswer : Inclusion → Answer Bool
 inclusionAnswer inclusion.Inside = accepted true
 inclusionAnswer inclusion.NotInside = accepted false
 inclusionAnswer inclusion.BadClocks = refused 31 0
-inclusionAnswer (inclusion.BadFirst p) = refused 32 p
-inclusionAnswer (inclusion.BadSecond p) = refused 33 p
+inclusionAnswer (inclusion.BadBound p) = refused 32 p
+inclusionAnswer (inclusion.BadSecondBound p) = refused 33 p

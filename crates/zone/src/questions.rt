@@ -10,7 +10,7 @@ pub enum Emptiness {
     Empty,
     NotEmpty,
     BadClocks,
-    BadWord(usize),
+    BadBound(usize),
 }
 
 // Whether one zone lies inside another at every scale, or the refusal.
@@ -18,8 +18,8 @@ pub enum Inclusion {
     Inside,
     NotInside,
     BadClocks,
-    BadFirst(usize),
-    BadSecond(usize),
+    BadBound(usize),
+    BadSecondBound(usize),
 }
 
 // Whether C is in its range.
@@ -71,7 +71,7 @@ pub fn zone_empty(clocks: u32, list: &[u32]) -> Emptiness
     }
     let read = read_zone(clocks, list);
     if !read.good {
-        return Emptiness::BadWord(read.place);
+        return Emptiness::BadBound(read.place);
     }
     let zone = read.zone;
     if zone.tighten().is_empty() {
@@ -89,11 +89,11 @@ pub fn zone_inside(clocks: u32, first: &[u32], second: &[u32]) -> Inclusion
     }
     let inner = read_zone(clocks, first);
     if !inner.good {
-        return Inclusion::BadFirst(inner.place);
+        return Inclusion::BadBound(inner.place);
     }
     let outer = read_zone(clocks, second);
     if !outer.good {
-        return Inclusion::BadSecond(outer.place);
+        return Inclusion::BadSecondBound(outer.place);
     }
     let zone = inner.zone;
     let tight = zone.tighten();

@@ -123,7 +123,7 @@ pub(crate) fn emptiness(clocks: u32, list: &[u32]) {
         Emptiness::Empty => text(b": EMPTY\n"),
         Emptiness::NotEmpty => text(b": NOT EMPTY\n"),
         Emptiness::BadClocks => refused(31, 0),
-        Emptiness::BadWord(place) => refused(32, place),
+        Emptiness::BadBound(place) => refused(32, place),
     }
 }
 
@@ -133,7 +133,7 @@ pub(crate) fn inclusion(clocks: u32, first: &[u32], second: &[u32]) {
         Inclusion::Inside => text(b": INSIDE\n"),
         Inclusion::NotInside => text(b": NOT INSIDE\n"),
         Inclusion::BadClocks => refused(31, 0),
-        Inclusion::BadFirst(place) => refused(32, place),
-        Inclusion::BadSecond(place) => refused(33, place),
+        Inclusion::BadBound(place) => refused(32, place),
+        Inclusion::BadSecondBound(place) => refused(33, place),
     }
 }

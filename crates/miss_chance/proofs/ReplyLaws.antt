@@ -1,0 +1,52 @@
+-- A slice holds the four words of an answer. Assumes nothing.
+use Prim.Native.Nat.{ℕ, _<_, _≤_}
+use mathlib.Core.Path.{_≡_, refl, ap, _∙_}
+use mathlib.Core.Bool.{Bool, true, false}
+use mathlib.Core.List.{List, [], _∷_, _++_}
+use native.Mathlib.Omega.{arith}
+use borrow.Author.Tests.{eq-eqb, ne-eqb}
+use mir.Val.{boolByte}
+use lib.ListN.{length, drop, set}
+use Rattle.zone.specs.Checks.{Answer, refused, accepted}
+use Rattle.judge.proofs.Numbering.{numberedAnswer}
+use Rattle.judge.specs.declared.numbers.Numbered.{Numbered}
+use Rattle.miss_chance.specs.Replies.{answerWords, yesWords, Replies}
+use Rattle.miss_chance.specs.Held.{replyWords}
+use Rattle.miss_chance.specs.declared.replies.Reply.{Reply}
+
+-- yes or no
+pub yes-written : (b : Bool) → boolByte b ∷ 0 ∷ 0 ∷ [] ≡ yesWords b
+yes-written true = refl
+yes-written false = refl
+
+-- four writes in a row
+pub four-written : (xs : List ℕ) (a b c d : ℕ) → 4 ≤ length xs → set (set (set (set xs 0 a) 1 b) 2 c) 3 d ≡ a ∷ b ∷ c ∷ d ∷ drop 4 xs
+four-written [] a b c d h = absurd (omega arith)
+four-written (x ∷ []) a b c d h = absurd (omega arith)
+four-written (x ∷ y ∷ []) a b c d h = absurd (omega arith)
+four-written (x ∷ y ∷ z ∷ []) a b c d h = absurd (omega arith)
+four-written (x ∷ y ∷ z ∷ w ∷ xs) a b c d h = refl
+
+-- what a number says
+pub not-zero : (n : Numbered) → (n .number ≡ 0 → ⊥) → numberedAnswer n ≡ refused (n .number) (n .place)
+unfolding numberedAnswer
+not-zero n h = rw (ne-eqb (n .number) 0 h)
+
+pub is-zero : (n : Numbered) → n .number ≡ 0 → numberedAnswer n ≡ accepted (n .certificate)
+unfolding numberedAnswer
+is-zero n e = rw (eq-eqb (n .number) 0 e)
+
+-- ---- what a call replies
+
+module _ {A : Type 0} (Says : Answer A → Type 0) (values : A → List ℕ) (before : List ℕ) where
+  -- too few words: nothing is written
+  pub not-written : length before < 4 → Replies Says values before before false
+  not-written h = record { short = λ _. (refl, refl); long = λ k. absurd (omega arith) }
+
+  -- enough words
+  pub written : {after : List ℕ} (r : Reply) (a : Answer A) → 4 ≤ length before → Says a → replyWords r ≡ answerWords values a →
+      after ≡ replyWords r ++ drop 4 before → Replies Says values before after true
+  written r a h s e f = record {
+    short = λ k. absurd (omega arith);
+    long = λ _. (refl, record { answer = a; says = s; writes = f ∙ ap (λ ws. ws ++ drop 4 before) e });
+  }

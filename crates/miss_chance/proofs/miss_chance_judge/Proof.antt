@@ -1,0 +1,32 @@
+use borrow.Author.Needs.{needs}
+use Rattle.miss_chance.proofs.ReplyLaws.{not-written, written}
+use Rattle.miss_chance.proofs.miss_chance_judge.Statement.{statement}
+use Rattle.miss_chance.proofs.miss_chance_judge.Tie as tie
+
+returns : tie.Need-returns
+returns c = not-written _ _ _ (c .if1 .taken)
+
+judge-requires : tie.Need-judge-requires
+judge-requires c κs = search needs
+
+of-verdict-requires : tie.Need-of-verdict-requires
+of-verdict-requires c κs = search needs
+
+put-requires : tie.Need-put-requires
+put-requires c κs = search needs
+
+same-length : tie.Need-same-length
+same-length c = search needs
+
+returns-2 : tie.Need-returns-2
+returns-2 c =
+    let told = c .before .before .before .before in
+    let asked = told .before in
+    written _ _ _ (told .of-verdict .result) _ (asked .before .if1 .left)
+    (record { judged = asked .judge .ensures .0; exactly = asked .judge .ensures .1 .0; bounds = asked .judge .ensures .1 .1 })
+    (told .of-verdict .ensures) (c .before .before .put .ensures)
+
+pub miss-chance-judge-spec : {M : Type 1} → statement M
+miss-chance-judge-spec =
+    tie.close
+    (tie.spec returns judge-requires of-verdict-requires put-requires same-length returns-2)

@@ -1,0 +1,31 @@
+use borrow.Author.Needs.{needs}
+use Rattle.miss_chance.proofs.ReplyLaws.{not-written, written}
+use Rattle.miss_chance.proofs.miss_chance_read_model.Statement.{statement}
+use Rattle.miss_chance.proofs.miss_chance_read_model.Tie as tie
+
+returns : tie.Need-returns
+returns c = not-written _ _ _ (c .if1 .taken)
+
+read-model-requires : tie.Need-read-model-requires
+read-model-requires c κs = search needs
+
+of-model-requires : tie.Need-of-model-requires
+of-model-requires c κs = search needs
+
+put-requires : tie.Need-put-requires
+put-requires c κs = search needs
+
+same-length : tie.Need-same-length
+same-length c = search needs
+
+returns-2 : tie.Need-returns-2
+returns-2 c =
+    let told = c .before .before .before .before in
+    let asked = told .before in
+    written _ _ _ (told .of-model .result) _ (asked .before .if1 .left) (asked .read-model .ensures) (told .of-model .ensures)
+    (c .before .before .put .ensures)
+
+pub miss-chance-read-model-spec : {M : Type 1} → statement M
+miss-chance-read-model-spec =
+    tie.close
+    (tie.spec returns read-model-requires of-model-requires put-requires same-length returns-2)

@@ -1,0 +1,31 @@
+use borrow.Author.Needs.{needs}
+use Rattle.miss_chance.proofs.ReplyLaws.{not-written, written}
+use Rattle.miss_chance.proofs.miss_chance_zone_empty.Statement.{statement}
+use Rattle.miss_chance.proofs.miss_chance_zone_empty.Tie as tie
+
+returns : tie.Need-returns
+returns c = not-written _ _ _ (c .if1 .taken)
+
+zone-empty-requires : tie.Need-zone-empty-requires
+zone-empty-requires c κs = search needs
+
+of-emptiness-requires : tie.Need-of-emptiness-requires
+of-emptiness-requires c κs = search needs
+
+put-requires : tie.Need-put-requires
+put-requires c κs = search needs
+
+same-length : tie.Need-same-length
+same-length c = search needs
+
+returns-2 : tie.Need-returns-2
+returns-2 c =
+    let told = c .before .before .before .before in
+    let asked = told .before in
+    written _ _ _ (told .of-emptiness .result) _ (asked .before .if1 .left) (asked .zone-empty .ensures) (told .of-emptiness .ensures)
+    (c .before .before .put .ensures)
+
+pub miss-chance-zone-empty-spec : {M : Type 1} → statement M
+miss-chance-zone-empty-spec =
+    tie.close
+    (tie.spec returns zone-empty-requires of-emptiness-requires put-requires same-length returns-2)

@@ -1,0 +1,96 @@
+use borrow.Author.Needs.{needs}
+use Rattle.model.specs.Reading.{modelAnswer}
+use Rattle.miss_chance.proofs.replies.of_model.Statement.{statement}
+use Rattle.miss_chance.proofs.replies.of_model.Tie as tie
+
+enum-known-answer : tie.Need-enum-known-answer
+enum-known-answer c = search needs
+
+enum-known-answer-2 : tie.Need-enum-known-answer-2
+enum-known-answer-2 c = search needs
+
+refusal-requires : tie.Need-refusal-requires
+refusal-requires c κs = search needs
+
+enum-known-answer-3 : tie.Need-enum-known-answer-3
+enum-known-answer-3 c = search needs
+
+refusal-requires-2 : tie.Need-refusal-requires-2
+refusal-requires-2 c κs = search needs
+
+enum-known-answer-4 : tie.Need-enum-known-answer-4
+enum-known-answer-4 c = search needs
+
+refusal-requires-3 : tie.Need-refusal-requires-3
+refusal-requires-3 c κs = search needs
+
+enum-known-answer-5 : tie.Need-enum-known-answer-5
+enum-known-answer-5 c = search needs
+
+refusal-requires-4 : tie.Need-refusal-requires-4
+refusal-requires-4 c κs = search needs
+
+enum-known-answer-6 : tie.Need-enum-known-answer-6
+enum-known-answer-6 c = search needs
+
+refusal-requires-5 : tie.Need-refusal-requires-5
+refusal-requires-5 c κs = search needs
+
+enum-known-answer-7 : tie.Need-enum-known-answer-7
+enum-known-answer-7 c = search needs
+
+refusal-requires-6 : tie.Need-refusal-requires-6
+refusal-requires-6 c κs = search needs
+
+returns : tie.Need-returns
+unfolding modelAnswer
+returns c = rw (c .before .answer .given .1)
+
+returns-2 : tie.Need-returns-2
+unfolding modelAnswer
+returns-2 c = rw (c .refusal .ensures, c .before .before .answer2 .given .1)
+
+returns-3 : tie.Need-returns-3
+unfolding modelAnswer
+returns-3 c = rw (c .refusal2 .ensures, c .before .before .answer3 .given .1)
+
+returns-4 : tie.Need-returns-4
+unfolding modelAnswer
+returns-4 c = rw (c .refusal3 .ensures, c .before .before .answer4 .given .1)
+
+returns-5 : tie.Need-returns-5
+unfolding modelAnswer
+returns-5 c = rw (c .refusal4 .ensures, c .before .before .answer5 .given .1)
+
+returns-6 : tie.Need-returns-6
+unfolding modelAnswer
+returns-6 c = rw (c .refusal5 .ensures, c .before .before .answer6 .given .1)
+
+returns-7 : tie.Need-returns-7
+unfolding modelAnswer
+returns-7 c = rw (c .refusal6 .ensures, c .before .before .answer7 .given .1)
+
+pub of-model-spec : {M : Type 1} → statement M
+of-model-spec =
+    tie.close
+    (tie.spec
+    enum-known-answer
+    enum-known-answer-2
+    refusal-requires
+    enum-known-answer-3
+    refusal-requires-2
+    enum-known-answer-4
+    refusal-requires-3
+    enum-known-answer-5
+    refusal-requires-4
+    enum-known-answer-6
+    refusal-requires-5
+    enum-known-answer-7
+    refusal-requires-6
+    returns
+    returns-2
+    returns-3
+    returns-4
+    returns-5
+    returns-6
+    returns-7)
