@@ -111,8 +111,8 @@ returning =
     0x11100003 ∷ 0x20000000 ∷ 0x30000000 ∷ 0x40000001 ∷ 0x40010002 ∷ 0x20000001 ∷ 0x60000000 ∷ 0x51001000 ∷ []
 
 -- at the location of that action, with the clock at x
-abbrev pub at : ℕ → State
-at x = record { location = 0; valuation = λ i. x }
+abbrev pub stateAt : ℕ → State
+stateAt x = record { location = 0; valuation = λ i. x }
 
 -- waits one unit and takes the action where a test of the list holds, and stops elsewhere
 abbrev pub watches : (List State → Bool) → Scheduler
@@ -120,7 +120,7 @@ watches test? history = cond (test? history) (choose (record { delay = 1; action
 
 -- for three steps, from the start state alone. A first step counts 2 × 9 = 18, a second 1 × 2 × 3 = 6 more, a third 1 × 1 × 2 = 2 more
 abbrev pub seen : (List State → Bool) → ℕ
-seen test? = weightedCount (modelOf returning) 1 (watches test?) 3 [] (at 0)
+seen test? = weightedCount (modelOf returning) 1 (watches test?) 3 [] (stateAt 0)
 
 -- the states of the list read x, x + 1, .. on clock 1
 unfoldable pub rising? : ℕ → List State → Bool
@@ -129,33 +129,30 @@ rising? x (s ∷ ss) = eqb (s .valuation 1) x && rising? (suc x) ss
 
 -- the first state of the list has clock 1 at 0
 abbrev pub began? : List State → Bool
-began? history = eqb (getD history 0 (at 9) .valuation 1) 0
+began? history = eqb (getD history 0 (stateAt 9) .valuation 1) 0
 
-pub start-starts : IsStart (modelOf returning) 1 (at 0)
+pub start-starts : IsStart (modelOf returning) 1 (stateAt 0)
 unfolding among kindOf boundOf partsWith partsOf modelOf locationAt read holds? in? within
 start-starts = record { location = refl; state = record { exists = lit≤ tt; invariant = tt }; bounds = tt }
 
 -- its length: at most 0, 1, 2 or 3 states
-pub seen-length :
+abbrev pub Lengths : Type 0
+Lengths =
     (seen (λ h. leb (length h) 0) ≡ 0) × (seen (λ h. leb (length h) 1) ≡ 18) × (seen (λ h. leb (length h) 2) ≡ 24) ×
     (seen (λ h. leb (length h) 3) ≡ 26)
-unfolding
-    among kindOf boundOf partsWith partsOf modelOf locationAt read holds? in? delayed masked? reset
-    later landing invariant? throughout? land? allowed? edgesCount choiceCount moveCount atTarget? weightedCount
-seen-length = (refl, refl, refl, refl)
 
 -- an earlier state: with the start state before it, the state that reads 1 has two steps more, and without it none
-pub seen-earlier :
-    (seen began? ≡ 26) × (weightedCount (modelOf returning) 1 (watches began?) 2 (at 0 ∷ []) (at 1) ≡ 8) ×
-    (weightedCount (modelOf returning) 1 (watches began?) 2 [] (at 1) ≡ 0)
-unfolding
-    among kindOf boundOf partsWith partsOf modelOf locationAt read holds? in? delayed masked? reset
-    later landing invariant? throughout? land? allowed? edgesCount choiceCount moveCount atTarget? weightedCount
-seen-earlier = (refl, refl, refl)
+abbrev pub Earlier : Type 0
+Earlier =
+    (seen began? ≡ 26) × (weightedCount (modelOf returning) 1 (watches began?) 2 (stateAt 0 ∷ []) (stateAt 1) ≡ 8) ×
+    (weightedCount (modelOf returning) 1 (watches began?) 2 [] (stateAt 1) ≡ 0)
 
 -- the order: rising from the start on, and not the other way round
-pub seen-order : (seen (rising? 0) ≡ 26) × (seen (λ h. rising? 0 (reverse h)) ≡ 18)
+abbrev pub Order : Type 0
+Order = (seen (rising? 0) ≡ 26) × (seen (λ h. rising? 0 (reverse h)) ≡ 18)
+
+pub sees : Lengths × Earlier × Order
 unfolding
     among kindOf boundOf partsWith partsOf modelOf locationAt read holds? in? delayed masked? reset
     later landing invariant? throughout? land? allowed? edgesCount choiceCount moveCount atTarget? weightedCount rising?
-seen-order = (refl, refl)
+sees = ((refl, refl, refl, refl), (refl, refl, refl), (refl, refl))

@@ -6,18 +6,6 @@ use Rattle.miss_chance.proofs.miss_chance_judge.Tie as tie
 returns : tie.Need-returns
 returns c = not-written _ _ _ (c .if1 .taken)
 
-judge-requires : tie.Need-judge-requires
-judge-requires c κs = search needs
-
-of-verdict-requires : tie.Need-of-verdict-requires
-of-verdict-requires c κs = search needs
-
-put-requires : tie.Need-put-requires
-put-requires c κs = search needs
-
-same-length : tie.Need-same-length
-same-length c = search needs
-
 returns-2 : tie.Need-returns-2
 returns-2 c =
     let told = c .before .before .before .before in
@@ -29,4 +17,4 @@ returns-2 c =
 pub miss-chance-judge-spec : {M : Type 1} → statement M
 miss-chance-judge-spec =
     tie.close
-    (tie.spec returns judge-requires of-verdict-requires put-requires same-length returns-2)
+    (tie.spec returns (λ c κs. search needs) (λ c κs. search needs) (λ c κs. search needs) (λ c. search needs) returns-2)

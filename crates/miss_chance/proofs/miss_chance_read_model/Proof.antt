@@ -6,18 +6,6 @@ use Rattle.miss_chance.proofs.miss_chance_read_model.Tie as tie
 returns : tie.Need-returns
 returns c = not-written _ _ _ (c .if1 .taken)
 
-read-model-requires : tie.Need-read-model-requires
-read-model-requires c κs = search needs
-
-of-model-requires : tie.Need-of-model-requires
-of-model-requires c κs = search needs
-
-put-requires : tie.Need-put-requires
-put-requires c κs = search needs
-
-same-length : tie.Need-same-length
-same-length c = search needs
-
 returns-2 : tie.Need-returns-2
 returns-2 c =
     let told = c .before .before .before .before in
@@ -28,4 +16,4 @@ returns-2 c =
 pub miss-chance-read-model-spec : {M : Type 1} → statement M
 miss-chance-read-model-spec =
     tie.close
-    (tie.spec returns read-model-requires of-model-requires put-requires same-length returns-2)
+    (tie.spec returns (λ c κs. search needs) (λ c κs. search needs) (λ c κs. search needs) (λ c. search needs) returns-2)

@@ -6,18 +6,6 @@ use Rattle.miss_chance.proofs.miss_chance_zone_inside.Tie as tie
 returns : tie.Need-returns
 returns c = not-written _ _ _ (c .if1 .taken)
 
-zone-inside-requires : tie.Need-zone-inside-requires
-zone-inside-requires c κs = search needs
-
-of-inclusion-requires : tie.Need-of-inclusion-requires
-of-inclusion-requires c κs = search needs
-
-put-requires : tie.Need-put-requires
-put-requires c κs = search needs
-
-same-length : tie.Need-same-length
-same-length c = search needs
-
 returns-2 : tie.Need-returns-2
 returns-2 c =
     let told = c .before .before .before .before in
@@ -28,10 +16,4 @@ returns-2 c =
 pub miss-chance-zone-inside-spec : {M : Type 1} → statement M
 miss-chance-zone-inside-spec =
     tie.close
-    (tie.spec
-    returns
-    zone-inside-requires
-    of-inclusion-requires
-    put-requires
-    same-length
-    returns-2)
+    (tie.spec returns (λ c κs. search needs) (λ c κs. search needs) (λ c κs. search needs) (λ c. search needs) returns-2)

@@ -24,9 +24,6 @@ Inv-loop index zones enabled₀ locations a₀ a-end enabled a =
 abbrev μ-loop : tie.MeasureT-loop
 μ-loop index zones enabled₀ locations a₀ a-end enabled a = a-end - a
 
-universe-requires : tie.Need-universe-requires Inv-loop2 μ-loop2 Inv-loop μ-loop
-universe-requires c κs = search needs
-
 mul-a-end : tie.Need-mul-a-end Inv-loop2 μ-loop2 Inv-loop μ-loop
 mul-a-end c = let few = c .before .pre .locations in omega arith
 
@@ -36,69 +33,12 @@ element-copy-out-a-end c = let few = c .before .pre .locations in omega arith
 loop-holds : tie.Need-loop-holds Inv-loop2 μ-loop2 Inv-loop μ-loop
 loop-holds c = (omega arith, c .before .before .pre .actions, unfilled refl)
 
-add-zone : tie.Need-add-zone Inv-loop2 μ-loop2 Inv-loop μ-loop
-add-zone c = search needs
-
-mul-zone : tie.Need-mul-zone Inv-loop2 μ-loop2 Inv-loop μ-loop
-mul-zone c = search needs
-
-array-copy-out-zone : tie.Need-array-copy-out-zone Inv-loop2 μ-loop2 Inv-loop μ-loop
-array-copy-out-zone c = search needs
-
-mul-e : tie.Need-mul-e Inv-loop2 μ-loop2 Inv-loop μ-loop
-mul-e c = search needs
-
-element-copy-out-e : tie.Need-element-copy-out-e Inv-loop2 μ-loop2 Inv-loop μ-loop
-element-copy-out-e c = search needs
-
-add-e-end : tie.Need-add-e-end Inv-loop2 μ-loop2 Inv-loop μ-loop
-add-e-end c = search needs
-
-mul-e-end : tie.Need-mul-e-end Inv-loop2 μ-loop2 Inv-loop μ-loop
-mul-e-end c = search needs
-
-element-copy-out-e-end : tie.Need-element-copy-out-e-end Inv-loop2 μ-loop2 Inv-loop μ-loop
-element-copy-out-e-end c = search needs
-
 loop2-holds : tie.Need-loop2-holds Inv-loop2 μ-loop2 Inv-loop μ-loop
 loop2-holds c =
     let start = c .before .before .before .before .before .before .before in
     let turn = c .before .before .before .before .loop in
     let sized : length (start .args .t2) ≡ 49 = search needs in
     (start .pre .edges .at (turn .a + 1), landings-begin _ _ (turn .a) sized (omega arith))
-
-mul-edge : tie.Need-mul-edge Inv-loop2 μ-loop2 Inv-loop μ-loop
-mul-edge c = search needs
-
-element-copy-out-edge : tie.Need-element-copy-out-edge Inv-loop2 μ-loop2 Inv-loop μ-loop
-element-copy-out-edge c = search needs
-
-lands-at-requires : tie.Need-lands-at-requires Inv-loop2 μ-loop2 Inv-loop μ-loop
-lands-at-requires c κs = search needs
-
-cast-invariant : tie.Need-cast-invariant Inv-loop2 μ-loop2 Inv-loop μ-loop
-cast-invariant c = search needs
-
-mul-invariant : tie.Need-mul-invariant Inv-loop2 μ-loop2 Inv-loop μ-loop
-mul-invariant c = search needs
-
-array-copy-out-invariant : tie.Need-array-copy-out-invariant Inv-loop2 μ-loop2 Inv-loop μ-loop
-array-copy-out-invariant c = search needs
-
-mask-of-requires : tie.Need-mask-of-requires Inv-loop2 μ-loop2 Inv-loop μ-loop
-mask-of-requires c κs = search needs
-
-before-reset-requires : tie.Need-before-reset-requires Inv-loop2 μ-loop2 Inv-loop μ-loop
-before-reset-requires c κs = search needs
-
-meet-requires : tie.Need-meet-requires Inv-loop2 μ-loop2 Inv-loop μ-loop
-meet-requires c κs = search needs
-
-add-e : tie.Need-add-e Inv-loop2 μ-loop2 Inv-loop μ-loop
-add-e c = search needs
-
-loop2-less : tie.Need-loop2-less Inv-loop2 μ-loop2 Inv-loop μ-loop
-loop2-less c = search needs
 
 loop2-again : tie.Need-loop2-again Inv-loop2 μ-loop2 Inv-loop μ-loop
 loop2-again c =
@@ -110,18 +50,6 @@ loop2-again c =
       landings-go _ _ _ (turn .e) (turn .zone) (turn .inv .1) sized (omega arith) (lands .0) (lands .1)
           (c .before .before .mask-of .ensures) (c .before .before-reset .ensures) (c .meet .ensures),
     )
-
-mul-enabled : tie.Need-mul-enabled Inv-loop2 μ-loop2 Inv-loop μ-loop
-mul-enabled c = search needs
-
-array-set-from-enabled : tie.Need-array-set-from-enabled Inv-loop2 μ-loop2 Inv-loop μ-loop
-array-set-from-enabled c = search needs
-
-add-a : tie.Need-add-a Inv-loop2 μ-loop2 Inv-loop μ-loop
-add-a c = search needs
-
-loop-less : tie.Need-loop-less Inv-loop2 μ-loop2 Inv-loop μ-loop
-loop-less c = search needs
 
 loop-again : tie.Need-loop-again Inv-loop2 μ-loop2 Inv-loop μ-loop
 loop-again c =
@@ -140,39 +68,8 @@ returns c = let turn = c .before in enabled-end _ _ (turn .before .before .unive
 pub enabled-zones-spec : {M : Type 1} → statement M
 enabled-zones-spec =
     tie.close
-    (tie.spec
-    Inv-loop2
-    μ-loop2
-    Inv-loop
-    μ-loop
-    universe-requires
-    mul-a-end
-    element-copy-out-a-end
-    loop-holds
-    add-zone
-    mul-zone
-    array-copy-out-zone
-    mul-e
-    element-copy-out-e
-    add-e-end
-    mul-e-end
-    element-copy-out-e-end
-    loop2-holds
-    mul-edge
-    element-copy-out-edge
-    lands-at-requires
-    cast-invariant
-    mul-invariant
-    array-copy-out-invariant
-    mask-of-requires
-    before-reset-requires
-    meet-requires
-    add-e
-    loop2-less
-    loop2-again
-    mul-enabled
-    array-set-from-enabled
-    add-a
-    loop-less
-    loop-again
-    returns)
+    (tie.spec Inv-loop2 μ-loop2 Inv-loop μ-loop (λ c κs. search needs) mul-a-end element-copy-out-a-end loop-holds (λ c. search needs)
+    (λ c. search needs) (λ c. search needs) (λ c. search needs) (λ c. search needs) (λ c. search needs) (λ c. search needs) (λ c. search needs)
+    loop2-holds (λ c. search needs) (λ c. search needs) (λ c κs. search needs) (λ c. search needs) (λ c. search needs) (λ c. search needs)
+    (λ c κs. search needs) (λ c κs. search needs) (λ c κs. search needs) (λ c. search needs) (λ c. search needs) loop2-again (λ c. search needs)
+    (λ c. search needs) (λ c. search needs) (λ c. search needs) loop-again returns)

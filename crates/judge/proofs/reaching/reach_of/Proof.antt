@@ -7,9 +7,6 @@ use Rattle.judge.proofs.ReachSizes.{met-fits}
 use Rattle.judge.proofs.reaching.reach_of.Statement.{statement}
 use Rattle.judge.proofs.reaching.reach_of.Tie as tie
 
-meet-requires : tie.Need-meet-requires
-meet-requires c κs = search needs
-
 tighten-requires : tie.Need-tighten-requires
 tighten-requires c κs =
     let start = c .before in
@@ -20,4 +17,4 @@ unfolding reachSquare
 returns c = c .tighten .ensures ∙ ap tightened (c .before .meet .ensures)
 
 pub reach-of-spec : {M : Type 1} → statement M
-reach-of-spec = tie.close (tie.spec meet-requires tighten-requires returns)
+reach-of-spec = tie.close (tie.spec (λ c κs. search needs) tighten-requires returns)

@@ -7,19 +7,10 @@ use Rattle.judge.proofs.ReachSizes.{met-fits}
 use Rattle.judge.proofs.reaching.waited.Statement.{statement}
 use Rattle.judge.proofs.reaching.waited.Tie as tie
 
-meet-requires : tie.Need-meet-requires
-meet-requires c κs = search needs
-
 tighten-requires : tie.Need-tighten-requires
 tighten-requires c κs =
     let start = c .before in
     met-fits (start .args .zone) (start .args .invariant) _ (c .meet .ensures) (start .pre .0) (start .pre .1) (omega arith) (omega arith)
-
-delay-requires : tie.Need-delay-requires
-delay-requires c κs = search needs
-
-meet-requires-2 : tie.Need-meet-requires-2
-meet-requires-2 c κs = search needs
 
 returns : tie.Need-returns
 unfolding waitedSquare
@@ -32,4 +23,4 @@ returns c =
 
 pub waited-spec : {M : Type 1} → statement M
 waited-spec =
-    tie.close (tie.spec meet-requires tighten-requires delay-requires meet-requires-2 returns)
+    tie.close (tie.spec (λ c κs. search needs) tighten-requires (λ c κs. search needs) (λ c κs. search needs) returns)

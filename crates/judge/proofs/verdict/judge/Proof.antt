@@ -67,15 +67,6 @@ walks c =
 
 -- ---- the needs
 
-index-model-requires : tie.Need-index-model-requires
-index-model-requires c κs = search needs
-
-enum-told : tie.Need-enum-told
-enum-told c = search needs
-
-model-refused-requires : tie.Need-model-refused-requires
-model-refused-requires c κs = search needs
-
 returns : tie.Need-returns
 returns c =
     let r = c .before .before in
@@ -85,12 +76,6 @@ returns c =
 
 index-table-requires : tie.Need-index-table-requires
 index-table-requires c κs = fits _ _ (model-accepted (c .before))
-
-enum-told-2 : tie.Need-enum-told-2
-enum-told-2 c = search needs
-
-words-refused-requires : tie.Need-words-refused-requires
-words-refused-requires c κs = search needs
 
 returns-2 : tie.Need-returns-2
 returns-2 c =
@@ -110,12 +95,6 @@ walk-requires c κs =
     (sym (c .enabled-zones .ensures))
     (asked _ _ (model-accepted (told g)) (list (read (told g))) _ (listed g .index-table .ensures .1) (g .enum-told2 .given .1))
 
-enum-told-3 : tie.Need-enum-told-3
-enum-told-3 c = search needs
-
-node-refused-requires : tie.Need-node-refused-requires
-node-refused-requires c κs = search needs
-
 returns-3 : tie.Need-returns-3
 returns-3 c =
     let w = c .before .before in
@@ -131,26 +110,11 @@ start-there c =
     let g = good (c .before .before) in
     start-limit _ _ (model-accepted (told g)) (list (read (told g))) _ (listed g .index-table .ensures .1) (g .enum-told2 .given .1)
 
-cast-s : tie.Need-cast-s
-cast-s c = search needs
-
-mul-node : tie.Need-mul-node
-mul-node c = search needs
-
 element-copy-out-node : tie.Need-element-copy-out-node
 element-copy-out-node c = start-there c
 
-cast-start-verdict : tie.Need-cast-start-verdict
-cast-start-verdict c = search needs
-
-mul-start-verdict : tie.Need-mul-start-verdict
-mul-start-verdict c = search needs
-
 element-copy-out-start-verdict : tie.Need-element-copy-out-start-verdict
 element-copy-out-start-verdict c = start-there (c .before .before)
-
-start-verdict-requires : tie.Need-start-verdict-requires
-start-verdict-requires c κs = search needs
 
 returns-4 : tie.Need-returns-4
 returns-4 c =
@@ -166,25 +130,6 @@ returns-4 c =
 pub judge-spec : {M : Type 1} → statement M
 judge-spec =
     tie.close
-    (tie.spec
-    index-model-requires
-    enum-told
-    model-refused-requires
-    returns
-    index-table-requires
-    enum-told-2
-    words-refused-requires
-    returns-2
-    enabled-zones-requires
-    walk-requires
-    enum-told-3
-    node-refused-requires
-    returns-3
-    cast-s
-    mul-node
-    element-copy-out-node
-    cast-start-verdict
-    mul-start-verdict
-    element-copy-out-start-verdict
-    start-verdict-requires
-    returns-4)
+    (tie.spec (λ c κs. search needs) (λ c. search needs) (λ c κs. search needs) returns index-table-requires (λ c. search needs)
+    (λ c κs. search needs) returns-2 enabled-zones-requires walk-requires (λ c. search needs) (λ c κs. search needs) returns-3 (λ c. search needs)
+    (λ c. search needs) element-copy-out-node (λ c. search needs) (λ c. search needs) element-copy-out-start-verdict (λ c κs. search needs) returns-4)

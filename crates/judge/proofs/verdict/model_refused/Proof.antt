@@ -6,27 +6,6 @@ use Rattle.judge.proofs.Handing.{hands, hands-nothing}
 use Rattle.judge.proofs.verdict.model_refused.Statement.{statement}
 use Rattle.judge.proofs.verdict.model_refused.Tie as tie
 
-enum-known-answer : tie.Need-enum-known-answer
-enum-known-answer c = search needs
-
-enum-known-answer-2 : tie.Need-enum-known-answer-2
-enum-known-answer-2 c = search needs
-
-enum-known-answer-3 : tie.Need-enum-known-answer-3
-enum-known-answer-3 c = search needs
-
-enum-known-answer-4 : tie.Need-enum-known-answer-4
-enum-known-answer-4 c = search needs
-
-enum-known-answer-5 : tie.Need-enum-known-answer-5
-enum-known-answer-5 c = search needs
-
-enum-known-answer-6 : tie.Need-enum-known-answer-6
-enum-known-answer-6 c = search needs
-
-enum-told : tie.Need-enum-told
-enum-told c = search needs
-
 returns : tie.Need-returns
 unfolding modelAnswer verdictAnswer
 returns c = hands 1 _ (rw (c .before .answer .given .1)) refl
@@ -58,18 +37,5 @@ returns-7 c = hands-nothing _ (ap modelAnswer (c .enum-told .given .1))
 pub model-refused-spec : {M : Type 1} → statement M
 model-refused-spec =
     tie.close
-    (tie.spec
-    enum-known-answer
-    enum-known-answer-2
-    enum-known-answer-3
-    enum-known-answer-4
-    enum-known-answer-5
-    enum-known-answer-6
-    enum-told
-    returns
-    returns-2
-    returns-3
-    returns-4
-    returns-5
-    returns-6
-    returns-7)
+    (tie.spec (λ c. search needs) (λ c. search needs) (λ c. search needs) (λ c. search needs) (λ c. search needs) (λ c. search needs)
+    (λ c. search needs) returns returns-2 returns-3 returns-4 returns-5 returns-6 returns-7)

@@ -6,24 +6,6 @@ use Rattle.judge.proofs.Handing.{hands, hands-nothing}
 use Rattle.judge.proofs.verdict.node_refused.Statement.{statement}
 use Rattle.judge.proofs.verdict.node_refused.Tie as tie
 
-enum-known-finding : tie.Need-enum-known-finding
-enum-known-finding c = search needs
-
-enum-known-finding-2 : tie.Need-enum-known-finding-2
-enum-known-finding-2 c = search needs
-
-enum-known-finding-3 : tie.Need-enum-known-finding-3
-enum-known-finding-3 c = search needs
-
-enum-known-finding-4 : tie.Need-enum-known-finding-4
-enum-known-finding-4 c = search needs
-
-enum-known-finding-5 : tie.Need-enum-known-finding-5
-enum-known-finding-5 c = search needs
-
-enum-told : tie.Need-enum-told
-enum-told c = search needs
-
 returns : tie.Need-returns
 unfolding findingAnswer verdictAnswer
 returns c = hands 15 _ (rw (c .before .finding .given .1)) refl
@@ -51,16 +33,5 @@ returns-6 c = hands-nothing _ (rw (c .enum-told .given .1))
 pub node-refused-spec : {M : Type 1} → statement M
 node-refused-spec =
     tie.close
-    (tie.spec
-    enum-known-finding
-    enum-known-finding-2
-    enum-known-finding-3
-    enum-known-finding-4
-    enum-known-finding-5
-    enum-told
-    returns
-    returns-2
-    returns-3
-    returns-4
-    returns-5
-    returns-6)
+    (tie.spec (λ c. search needs) (λ c. search needs) (λ c. search needs) (λ c. search needs) (λ c. search needs) (λ c. search needs) returns
+    returns-2 returns-3 returns-4 returns-5 returns-6)

@@ -8,9 +8,6 @@ returns : tie.Need-returns
 unfolding startVerdict
 returns c = rw (ne-eqb _ _ (c .if1 .taken))
 
-inside-requires : tie.Need-inside-requires
-inside-requires c κs = search needs
-
 returns-2 : tie.Need-returns-2
 unfolding startVerdict
 returns-2 c = rw (eq-eqb _ _ (c .before .before .if1 .left), ← c .before .inside .ensures, c .if2 .taken)
@@ -20,4 +17,4 @@ unfolding startVerdict
 returns-3 c = rw (eq-eqb _ _ (c .before .before .if1 .left), ← c .before .inside .ensures, c .if2 .left)
 
 pub start-verdict-spec : {M : Type 1} → statement M
-start-verdict-spec = tie.close (tie.spec returns inside-requires returns-2 returns-3)
+start-verdict-spec = tie.close (tie.spec returns (λ c κs. search needs) returns-2 returns-3)

@@ -6,21 +6,6 @@ use Rattle.judge.proofs.Handing.{hands, hands-nothing}
 use Rattle.judge.proofs.verdict.words_refused.Statement.{statement}
 use Rattle.judge.proofs.verdict.words_refused.Tie as tie
 
-enum-known-answer : tie.Need-enum-known-answer
-enum-known-answer c = search needs
-
-enum-known-answer-2 : tie.Need-enum-known-answer-2
-enum-known-answer-2 c = search needs
-
-enum-known-answer-3 : tie.Need-enum-known-answer-3
-enum-known-answer-3 c = search needs
-
-enum-known-answer-4 : tie.Need-enum-known-answer-4
-enum-known-answer-4 c = search needs
-
-enum-told : tie.Need-enum-told
-enum-told c = search needs
-
 returns : tie.Need-returns
 unfolding tableAnswer verdictAnswer
 returns c = hands 11 _ (rw (c .before .answer .given .1)) refl
@@ -44,14 +29,5 @@ returns-5 c = hands-nothing _ (rw (c .enum-told .given .1))
 pub words-refused-spec : {M : Type 1} → statement M
 words-refused-spec =
     tie.close
-    (tie.spec
-    enum-known-answer
-    enum-known-answer-2
-    enum-known-answer-3
-    enum-known-answer-4
-    enum-told
-    returns
-    returns-2
-    returns-3
-    returns-4
-    returns-5)
+    (tie.spec (λ c. search needs) (λ c. search needs) (λ c. search needs) (λ c. search needs) (λ c. search needs) returns returns-2 returns-3
+    returns-4 returns-5)

@@ -9,12 +9,6 @@ use Rattle.judge.proofs.walk.share.Tie as tie
 small : (c : tie.After-weight-of) → c .weight-of .result * c .before .args .value < 2 ^ 48
 small c = product-small (c .weight-of .result) (c .before .args .value) (2 ^ 16) (2 ^ 32) (c .weight-of .ensures .1) (search needs)
 
-weight-of-requires : tie.Need-weight-of-requires
-weight-of-requires c κs = search needs
-
-cast-result : tie.Need-cast-result
-cast-result c = search needs
-
 mul-result : tie.Need-mul-result
 mul-result c = let s = small c in omega arith
 
@@ -22,4 +16,4 @@ returns : tie.Need-returns
 returns c = (ap (λ n. n * c .before .args .value) (c .weight-of .ensures .0), small c)
 
 pub share-spec : {M : Type 1} → statement M
-share-spec = tie.close (tie.spec weight-of-requires cast-result mul-result returns)
+share-spec = tie.close (tie.spec (λ c κs. search needs) (λ c. search needs) mul-result returns)

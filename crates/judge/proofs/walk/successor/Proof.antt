@@ -8,12 +8,6 @@ use Rattle.judge.specs.Walk.{successorFinding}
 use Rattle.judge.proofs.walk.successor.Statement.{statement}
 use Rattle.judge.proofs.walk.successor.Tie as tie
 
-lands-at-requires : tie.Need-lands-at-requires
-lands-at-requires c κs = search needs
-
-cast-if1 : tie.Need-cast-if1
-cast-if1 c = search needs
-
 returns : tie.Need-returns
 unfolding successorFinding
 returns c =
@@ -27,15 +21,6 @@ at c = eq-eqb _ _ (c .if1 .left ∙ c .before .before .lands-at .ensures .0)
 returns-2 : tie.Need-returns-2
 unfolding successorFinding
 returns-2 c = rw (at (c .before), c .if2 .taken)
-
-mask-of-requires : tie.Need-mask-of-requires
-mask-of-requires c κs = search needs
-
-reset-requires : tie.Need-reset-requires
-reset-requires c κs = search needs
-
-inside-requires : tie.Need-inside-requires
-inside-requires c κs = search needs
 
 returns-3 : tie.Need-returns-3
 unfolding successorFinding
@@ -68,13 +53,5 @@ returns-4 c =
 pub successor-spec : {M : Type 1} → statement M
 successor-spec =
     tie.close
-    (tie.spec
-    lands-at-requires
-    cast-if1
-    returns
-    returns-2
-    mask-of-requires
-    reset-requires
-    inside-requires
-    returns-3
-    returns-4)
+    (tie.spec (λ c κs. search needs) (λ c. search needs) returns returns-2 (λ c κs. search needs) (λ c κs. search needs) (λ c κs. search needs)
+    returns-3 returns-4)

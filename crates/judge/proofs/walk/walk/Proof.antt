@@ -121,35 +121,14 @@ next-at c =
     let s = c .number-of .ensures .1 in
     zone-there (k .args .t4 .zones) (c .number-of .result) (omega arith)
 
-cast-denominator : tie.Need-cast-denominator Inv-loop2 μ-loop2 Inv-loop μ-loop Inv-nodes μ-nodes
-cast-denominator c = search needs
-
-nodes-holds : tie.Need-nodes-holds Inv-loop2 μ-loop2 Inv-loop μ-loop Inv-nodes μ-nodes
-nodes-holds c = nodes-begin _ _ _ _
-
-mul-node : tie.Need-mul-node Inv-loop2 μ-loop2 Inv-loop μ-loop Inv-nodes μ-nodes
-mul-node c = search needs
-
-element-copy-out-node : tie.Need-element-copy-out-node Inv-loop2 μ-loop2 Inv-loop μ-loop Inv-nodes μ-nodes
-element-copy-out-node c = search needs
-
 element-copy-out-target : tie.Need-element-copy-out-target Inv-loop2 μ-loop2 Inv-loop μ-loop Inv-nodes μ-nodes
 element-copy-out-target c = located (c .before)
-
-cast-limit : tie.Need-cast-limit Inv-loop2 μ-loop2 Inv-loop μ-loop Inv-nodes μ-nodes
-cast-limit c = search needs
 
 mul-limit : tie.Need-mul-limit Inv-loop2 μ-loop2 Inv-loop μ-loop Inv-nodes μ-nodes
 mul-limit c =
     let k = c .before .before .before .before in
     let p = product-small (start k .args .t2 .index .denominator) (node k .value) (2 ^ 32) (2 ^ 32) (search needs) (search needs) in
     omega arith
-
-mul-waited : tie.Need-mul-waited Inv-loop2 μ-loop2 Inv-loop μ-loop Inv-nodes μ-nodes
-mul-waited c = search needs
-
-element-copy-out-waited : tie.Need-element-copy-out-waited Inv-loop2 μ-loop2 Inv-loop μ-loop Inv-nodes μ-nodes
-element-copy-out-waited c = search needs
 
 mul-waited-2 : tie.Need-mul-waited-2 Inv-loop2 μ-loop2 Inv-loop μ-loop Inv-nodes μ-nodes
 mul-waited-2 c = let l = located (c .before .before .before .before .before) in omega arith
@@ -191,20 +170,11 @@ loop-holds c =
     let k = f .before .before .before in
     node-rows _ _ _ _ (k .before .nodes .inv) (k .nodes-test .taken) (f .if1 .left) (fits f) (waited-is w)
 
-mul-reach-of : tie.Need-mul-reach-of Inv-loop2 μ-loop2 Inv-loop μ-loop Inv-nodes μ-nodes
-mul-reach-of c = search needs
-
-array-copy-out-reach-of : tie.Need-array-copy-out-reach-of Inv-loop2 μ-loop2 Inv-loop μ-loop Inv-nodes μ-nodes
-array-copy-out-reach-of c = search needs
-
 reach-of-requires : tie.Need-reach-of-requires Inv-loop2 μ-loop2 Inv-loop μ-loop Inv-nodes μ-nodes
 reach-of-requires c κs =
     let k = c .before in
     let i = k .before .loop .inv in
     (i .small, rw (enabled-at k) (row-asked _ _ _ _ i (k .loop-test .taken)))
-
-is-empty-requires : tie.Need-is-empty-requires Inv-loop2 μ-loop2 Inv-loop μ-loop Inv-nodes μ-nodes
-is-empty-requires c κs = search needs
 
 mul-kind-of : tie.Need-mul-kind-of Inv-loop2 μ-loop2 Inv-loop μ-loop Inv-nodes μ-nodes
 mul-kind-of c =
@@ -216,9 +186,6 @@ mul-kind-of c =
 shared-slice-read-kind-of : tie.Need-shared-slice-read-kind-of Inv-loop2 μ-loop2 Inv-loop μ-loop Inv-nodes μ-nodes
 shared-slice-read-kind-of c = let k = c .before .before .before .before in row-place _ _ _ _ (k .before .loop .inv) (k .loop-test .taken)
 
-kind-of-requires : tie.Need-kind-of-requires Inv-loop2 μ-loop2 Inv-loop μ-loop Inv-nodes μ-nodes
-kind-of-requires c κs = search needs
-
 add-at-2 : tie.Need-add-at-2 Inv-loop2 μ-loop2 Inv-loop μ-loop Inv-nodes μ-nodes
 add-at-2 c =
     let k = c .before .before .before .before .before .before .before in
@@ -226,66 +193,12 @@ add-at-2 c =
     let size = start (turn k) .good .0 .0 in
     omega arith
 
-mul-e : tie.Need-mul-e Inv-loop2 μ-loop2 Inv-loop μ-loop Inv-nodes μ-nodes
-mul-e c = search needs
-
-element-copy-out-e : tie.Need-element-copy-out-e Inv-loop2 μ-loop2 Inv-loop μ-loop Inv-nodes μ-nodes
-element-copy-out-e c = search needs
-
-add-e-end : tie.Need-add-e-end Inv-loop2 μ-loop2 Inv-loop μ-loop Inv-nodes μ-nodes
-add-e-end c = search needs
-
-mul-e-end : tie.Need-mul-e-end Inv-loop2 μ-loop2 Inv-loop μ-loop Inv-nodes μ-nodes
-mul-e-end c = search needs
-
-element-copy-out-e-end : tie.Need-element-copy-out-e-end Inv-loop2 μ-loop2 Inv-loop μ-loop Inv-nodes μ-nodes
-element-copy-out-e-end c = search needs
-
 loop2-holds : tie.Need-loop2-holds Inv-loop2 μ-loop2 Inv-loop μ-loop Inv-nodes μ-nodes
 loop2-holds c =
     let w = c .before .before .before in
     let k = w .before .before .before .before .before in
     row-successors _ _ _ _ (k .before .loop .inv) (k .loop-test .taken) (reach-is w) (w .before .before .is-empty .ensures)
     (λ q. c .before .before .if3 .left (w .kind-of .ensures ∙ q)) (start (turn k) .pre .edges)
-
-mul-edge : tie.Need-mul-edge Inv-loop2 μ-loop2 Inv-loop μ-loop Inv-nodes μ-nodes
-mul-edge c = search needs
-
-element-copy-out-edge : tie.Need-element-copy-out-edge Inv-loop2 μ-loop2 Inv-loop μ-loop Inv-nodes μ-nodes
-element-copy-out-edge c = search needs
-
-mul-number-of : tie.Need-mul-number-of Inv-loop2 μ-loop2 Inv-loop μ-loop Inv-nodes μ-nodes
-mul-number-of c = search needs
-
-shared-slice-read-number-of : tie.Need-shared-slice-read-number-of Inv-loop2 μ-loop2 Inv-loop μ-loop Inv-nodes μ-nodes
-shared-slice-read-number-of c = search needs
-
-number-of-requires : tie.Need-number-of-requires Inv-loop2 μ-loop2 Inv-loop μ-loop Inv-nodes μ-nodes
-number-of-requires c κs = search needs
-
-cast-s : tie.Need-cast-s Inv-loop2 μ-loop2 Inv-loop μ-loop Inv-nodes μ-nodes
-cast-s c = search needs
-
-mul-next : tie.Need-mul-next Inv-loop2 μ-loop2 Inv-loop μ-loop Inv-nodes μ-nodes
-mul-next c = search needs
-
-element-copy-out-next : tie.Need-element-copy-out-next Inv-loop2 μ-loop2 Inv-loop μ-loop Inv-nodes μ-nodes
-element-copy-out-next c = search needs
-
-mul-successor : tie.Need-mul-successor Inv-loop2 μ-loop2 Inv-loop μ-loop Inv-nodes μ-nodes
-mul-successor c = search needs
-
-element-copy-out-successor : tie.Need-element-copy-out-successor Inv-loop2 μ-loop2 Inv-loop μ-loop Inv-nodes μ-nodes
-element-copy-out-successor c = search needs
-
-successor-requires : tie.Need-successor-requires Inv-loop2 μ-loop2 Inv-loop μ-loop Inv-nodes μ-nodes
-successor-requires c κs = search needs
-
-enum-told : tie.Need-enum-told Inv-loop2 μ-loop2 Inv-loop μ-loop Inv-nodes μ-nodes
-enum-told c = search needs
-
-share-requires : tie.Need-share-requires Inv-loop2 μ-loop2 Inv-loop μ-loop Inv-nodes μ-nodes
-share-requires c κs = search needs
 
 add-sum : tie.Need-add-sum Inv-loop2 μ-loop2 Inv-loop μ-loop Inv-nodes μ-nodes
 add-sum c =
@@ -320,12 +233,6 @@ loop2-again c =
     successor-next _ _ _ _ (k .before .loop2 .inv) (k .loop2-test .taken) refl (s .number-of .ensures .0) (next-at s)
     (c .before .before .before .successor .ensures) (c .before .enum-told .given .1) (c .share .ensures .0) (c .share .ensures .1)
 
-add-a : tie.Need-add-a Inv-loop2 μ-loop2 Inv-loop μ-loop Inv-nodes μ-nodes
-add-a c = search needs
-
-loop-less : tie.Need-loop-less Inv-loop2 μ-loop2 Inv-loop μ-loop Inv-nodes μ-nodes
-loop-less c = search needs
-
 loop-again : tie.Need-loop-again Inv-loop2 μ-loop2 Inv-loop μ-loop Inv-nodes μ-nodes
 loop-again c =
     let w = c .before in
@@ -337,12 +244,6 @@ loop-again c =
     (sym (w .kind-of .ensures) ∙ y .0 .taken) (y .1 .left))
     (λ y. row-end _ _ _ _ (y .3 .inv) (y .4 .left) (y .6) (y .7) (y .5 .left) (i .small) (i .last))
     (c .if3 .came)
-
-add-n : tie.Need-add-n Inv-loop2 μ-loop2 Inv-loop μ-loop Inv-nodes μ-nodes
-add-n c = search needs
-
-nodes-less : tie.Need-nodes-less Inv-loop2 μ-loop2 Inv-loop μ-loop Inv-nodes μ-nodes
-nodes-less c = search needs
 
 nodes-again : tie.Need-nodes-again Inv-loop2 μ-loop2 Inv-loop μ-loop Inv-nodes μ-nodes
 nodes-again c =
@@ -382,72 +283,12 @@ returns-5 c = sum-large _ _ _ _ (c .before .before .loop2 .inv) (c .before .loop
 pub walk-spec : {M : Type 1} → statement M
 walk-spec =
     tie.close
-    (tie.spec
-    Inv-loop2
-    μ-loop2
-    Inv-loop
-    μ-loop
-    Inv-nodes
-    μ-nodes
-    cast-denominator
-    nodes-holds
-    mul-node
-    element-copy-out-node
-    element-copy-out-target
-    cast-limit
-    mul-limit
-    mul-waited
-    element-copy-out-waited
-    mul-waited-2
-    element-copy-out-waited-2
-    waited-requires
-    add-at
-    mul-a
-    element-copy-out-a
-    add-a-end
-    mul-a-end
-    element-copy-out-a-end
-    loop-holds
-    mul-reach-of
-    array-copy-out-reach-of
-    reach-of-requires
-    is-empty-requires
-    mul-kind-of
-    shared-slice-read-kind-of
-    kind-of-requires
-    add-at-2
-    mul-e
-    element-copy-out-e
-    add-e-end
-    mul-e-end
-    element-copy-out-e-end
-    loop2-holds
-    mul-edge
-    element-copy-out-edge
-    mul-number-of
-    shared-slice-read-number-of
-    number-of-requires
-    cast-s
-    mul-next
-    element-copy-out-next
-    mul-successor
-    element-copy-out-successor
-    successor-requires
-    enum-told
-    share-requires
-    add-sum
-    add-at-3
-    add-e
-    loop2-less
-    loop2-again
-    add-a
-    loop-less
-    loop-again
-    add-n
-    nodes-less
-    nodes-again
-    returns
-    returns-2
-    returns-3
-    returns-4
-    returns-5)
+    (tie.spec Inv-loop2 μ-loop2 Inv-loop μ-loop Inv-nodes μ-nodes (λ c. search needs) (λ c. nodes-begin _ _ _ _) (λ c. search needs)
+    (λ c. search needs) element-copy-out-target (λ c. search needs) mul-limit (λ c. search needs) (λ c. search needs) mul-waited-2
+    element-copy-out-waited-2 waited-requires add-at mul-a element-copy-out-a add-a-end mul-a-end element-copy-out-a-end loop-holds
+    (λ c. search needs) (λ c. search needs) reach-of-requires (λ c κs. search needs) mul-kind-of shared-slice-read-kind-of (λ c κs. search needs)
+    add-at-2 (λ c. search needs) (λ c. search needs) (λ c. search needs) (λ c. search needs) (λ c. search needs) loop2-holds (λ c. search needs)
+    (λ c. search needs) (λ c. search needs) (λ c. search needs) (λ c κs. search needs) (λ c. search needs) (λ c. search needs) (λ c. search needs)
+    (λ c. search needs) (λ c. search needs) (λ c κs. search needs) (λ c. search needs) (λ c κs. search needs) add-sum add-at-3 add-e loop2-less
+    loop2-again (λ c. search needs) (λ c. search needs) loop-again (λ c. search needs) (λ c. search needs) nodes-again returns returns-2 returns-3
+    returns-4 returns-5)

@@ -37,9 +37,6 @@ answered c =
 
 -- ---- the needs
 
-refused-line-requires : tie.Need-refused-line-requires
-refused-line-requires c κs = search needs
-
 returns : tie.Need-returns
 returns c = (
   record {
@@ -49,9 +46,6 @@ returns c = (
   },
   counted (c .refused-line .result) (c .refused-line .ensures .1) (simp length-map at (c .refused-line .ok .1 .1 .0 .1 .0 .1)),
 )
-
-refused-line-requires-2 : tie.Need-refused-line-requires-2
-refused-line-requires-2 c κs = search needs
 
 returns-2 : tie.Need-returns-2
 returns-2 c = (
@@ -63,44 +57,17 @@ returns-2 c = (
   counted (c .refused-line2 .result) (c .refused-line2 .ensures .1) (simp length-map at (c .refused-line2 .ok .1 .1 .0 .1 .0 .1)),
 )
 
-slice-aggregate-to-words : tie.Need-slice-aggregate-to-words
-slice-aggregate-to-words c = search needs
-
-to-words-requires : tie.Need-to-words-requires
-to-words-requires c κs = search needs
-
-array-share-prefix-space : tie.Need-array-share-prefix-space
-array-share-prefix-space c = search needs
-
 slice-aggregate-list : tie.Need-slice-aggregate-list
 slice-aggregate-list c = simp length-take (omega (arith, c .before .before .to-words .kept .1 .0))
 
-table-part-requires : tie.Need-table-part-requires
-table-part-requires c κs = search needs
-
 sub-model : tie.Need-sub-model
 sub-model c = rw (c .table-part .ensures) (table-length (list (c .before .before .before)))
-
-slice-aggregate-model : tie.Need-slice-aggregate-model
-slice-aggregate-model c = simp length-take (omega arith)
-
-judge-requires : tie.Need-judge-requires
-judge-requires c κs = search needs
-
-in-numbers-requires : tie.Need-in-numbers-requires
-in-numbers-requires c κs = search needs
-
-refused-line-requires-3 : tie.Need-refused-line-requires-3
-refused-line-requires-3 c κs = search needs
 
 returns-3 : tie.Need-returns-3
 returns-3 c = (
   prints-refused _ (answered (c .before .before)) (c .before .if3 .taken) (c .refused-line3 .ensures .0),
   counted (c .refused-line3 .result) (c .refused-line3 .ensures .1) (simp length-map at (c .refused-line3 .ok .1 .1 .0 .1 .0 .1)),
 )
-
-accepted-line-requires : tie.Need-accepted-line-requires
-accepted-line-requires c κs = search needs
 
 returns-4 : tie.Need-returns-4
 returns-4 c = (
@@ -111,21 +78,6 @@ returns-4 c = (
 pub line-of-spec : {M : Type 1} → statement M
 line-of-spec =
     tie.close
-    (tie.spec
-    refused-line-requires
-    returns
-    refused-line-requires-2
-    returns-2
-    slice-aggregate-to-words
-    to-words-requires
-    array-share-prefix-space
-    slice-aggregate-list
-    table-part-requires
-    sub-model
-    slice-aggregate-model
-    judge-requires
-    in-numbers-requires
-    refused-line-requires-3
-    returns-3
-    accepted-line-requires
-    returns-4)
+    (tie.spec (λ c κs. search needs) returns (λ c κs. search needs) returns-2 (λ c. search needs) (λ c κs. search needs) (λ c. search needs)
+    slice-aggregate-list (λ c κs. search needs) sub-model (λ c. simp length-take (omega arith)) (λ c κs. search needs) (λ c κs. search needs)
+    (λ c κs. search needs) returns-3 (λ c κs. search needs) returns-4)

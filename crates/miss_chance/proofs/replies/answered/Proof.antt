@@ -3,11 +3,8 @@ use Rattle.miss_chance.proofs.ReplyLaws.{yes-written}
 use Rattle.miss_chance.proofs.replies.answered.Statement.{statement}
 use Rattle.miss_chance.proofs.replies.answered.Tie as tie
 
-cast-t2 : tie.Need-cast-t2
-cast-t2 c = search needs
-
 returns : tie.Need-returns
 returns c = rw (yes-written (c .args .yes))
 
 pub answered-spec : {M : Type 1} → statement M
-answered-spec = tie.close (tie.spec cast-t2 returns)
+answered-spec = tie.close (tie.spec (λ c. search needs) returns)

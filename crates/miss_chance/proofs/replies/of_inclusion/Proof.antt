@@ -3,36 +3,6 @@ use Rattle.zone.specs.Questions.{inclusionAnswer}
 use Rattle.miss_chance.proofs.replies.of_inclusion.Statement.{statement}
 use Rattle.miss_chance.proofs.replies.of_inclusion.Tie as tie
 
-enum-told : tie.Need-enum-told
-enum-told c = search needs
-
-answered-requires : tie.Need-answered-requires
-answered-requires c κs = search needs
-
-enum-told-2 : tie.Need-enum-told-2
-enum-told-2 c = search needs
-
-answered-requires-2 : tie.Need-answered-requires-2
-answered-requires-2 c κs = search needs
-
-enum-told-3 : tie.Need-enum-told-3
-enum-told-3 c = search needs
-
-refusal-requires : tie.Need-refusal-requires
-refusal-requires c κs = search needs
-
-enum-known-answer : tie.Need-enum-known-answer
-enum-known-answer c = search needs
-
-refusal-requires-2 : tie.Need-refusal-requires-2
-refusal-requires-2 c κs = search needs
-
-enum-known-answer-2 : tie.Need-enum-known-answer-2
-enum-known-answer-2 c = search needs
-
-refusal-requires-3 : tie.Need-refusal-requires-3
-refusal-requires-3 c κs = search needs
-
 returns : tie.Need-returns
 unfolding inclusionAnswer
 returns c = rw (c .answered .ensures, c .before .enum-told .given .1)
@@ -56,19 +26,5 @@ returns-5 c = rw (c .refusal3 .ensures, c .before .before .answer2 .given .1)
 pub of-inclusion-spec : {M : Type 1} → statement M
 of-inclusion-spec =
     tie.close
-    (tie.spec
-    enum-told
-    answered-requires
-    enum-told-2
-    answered-requires-2
-    enum-told-3
-    refusal-requires
-    enum-known-answer
-    refusal-requires-2
-    enum-known-answer-2
-    refusal-requires-3
-    returns
-    returns-2
-    returns-3
-    returns-4
-    returns-5)
+    (tie.spec (λ c. search needs) (λ c κs. search needs) (λ c. search needs) (λ c κs. search needs) (λ c. search needs) (λ c κs. search needs)
+    (λ c. search needs) (λ c κs. search needs) (λ c. search needs) (λ c κs. search needs) returns returns-2 returns-3 returns-4 returns-5)

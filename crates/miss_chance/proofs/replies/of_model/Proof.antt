@@ -3,45 +3,6 @@ use Rattle.model.specs.Reading.{modelAnswer}
 use Rattle.miss_chance.proofs.replies.of_model.Statement.{statement}
 use Rattle.miss_chance.proofs.replies.of_model.Tie as tie
 
-enum-known-answer : tie.Need-enum-known-answer
-enum-known-answer c = search needs
-
-enum-known-answer-2 : tie.Need-enum-known-answer-2
-enum-known-answer-2 c = search needs
-
-refusal-requires : tie.Need-refusal-requires
-refusal-requires c κs = search needs
-
-enum-known-answer-3 : tie.Need-enum-known-answer-3
-enum-known-answer-3 c = search needs
-
-refusal-requires-2 : tie.Need-refusal-requires-2
-refusal-requires-2 c κs = search needs
-
-enum-known-answer-4 : tie.Need-enum-known-answer-4
-enum-known-answer-4 c = search needs
-
-refusal-requires-3 : tie.Need-refusal-requires-3
-refusal-requires-3 c κs = search needs
-
-enum-known-answer-5 : tie.Need-enum-known-answer-5
-enum-known-answer-5 c = search needs
-
-refusal-requires-4 : tie.Need-refusal-requires-4
-refusal-requires-4 c κs = search needs
-
-enum-known-answer-6 : tie.Need-enum-known-answer-6
-enum-known-answer-6 c = search needs
-
-refusal-requires-5 : tie.Need-refusal-requires-5
-refusal-requires-5 c κs = search needs
-
-enum-known-answer-7 : tie.Need-enum-known-answer-7
-enum-known-answer-7 c = search needs
-
-refusal-requires-6 : tie.Need-refusal-requires-6
-refusal-requires-6 c κs = search needs
-
 returns : tie.Need-returns
 unfolding modelAnswer
 returns c = rw (c .before .answer .given .1)
@@ -73,24 +34,6 @@ returns-7 c = rw (c .refusal6 .ensures, c .before .before .answer7 .given .1)
 pub of-model-spec : {M : Type 1} → statement M
 of-model-spec =
     tie.close
-    (tie.spec
-    enum-known-answer
-    enum-known-answer-2
-    refusal-requires
-    enum-known-answer-3
-    refusal-requires-2
-    enum-known-answer-4
-    refusal-requires-3
-    enum-known-answer-5
-    refusal-requires-4
-    enum-known-answer-6
-    refusal-requires-5
-    enum-known-answer-7
-    refusal-requires-6
-    returns
-    returns-2
-    returns-3
-    returns-4
-    returns-5
-    returns-6
-    returns-7)
+    (tie.spec (λ c. search needs) (λ c. search needs) (λ c κs. search needs) (λ c. search needs) (λ c κs. search needs) (λ c. search needs)
+    (λ c κs. search needs) (λ c. search needs) (λ c κs. search needs) (λ c. search needs) (λ c κs. search needs) (λ c. search needs)
+    (λ c κs. search needs) returns returns-2 returns-3 returns-4 returns-5 returns-6 returns-7)

@@ -23,23 +23,8 @@ fit c = rw (c .scan .ensures) (fit-scanned _)
 start-below : (c : tie.After-scan) → c .scan .result .seen .start < 48
 start-below c = let start = limits c .start in omega arith
 
-scan-requires : tie.Need-scan-requires
-scan-requires c κs = search needs
-
-cast-invariant : tie.Need-cast-invariant
-cast-invariant c = search needs
-
-mul-invariant : tie.Need-mul-invariant
-mul-invariant c = search needs
-
 array-copy-out-invariant : tie.Need-array-copy-out-invariant
 array-copy-out-invariant c = let start = limits (c .before .before .before .before) .start in omega arith
-
-array-copy-out-bounds : tie.Need-array-copy-out-bounds
-array-copy-out-bounds c = search needs
-
-meet-requires : tie.Need-meet-requires
-meet-requires c κs = search needs
 
 tighten-requires : tie.Need-tighten-requires
 tighten-requires c κs =
@@ -52,15 +37,6 @@ first-missing-requires c κs =
     let actions = good .actions in
     let edges = good .edges in
     omega arith
-
-is-empty-requires : tie.Need-is-empty-requires
-is-empty-requires c κs = search needs
-
-whole-answer-requires : tie.Need-whole-answer-requires
-whole-answer-requires c κs = search needs
-
-answer-of-requires : tie.Need-answer-of-requires
-answer-of-requires c κs = search needs
 
 returns : tie.Need-returns
 unfolding startSquare
@@ -75,16 +51,5 @@ returns c =
 pub index-model-spec : {M : Type 1} → statement M
 index-model-spec =
     tie.close
-    (tie.spec
-    scan-requires
-    cast-invariant
-    mul-invariant
-    array-copy-out-invariant
-    array-copy-out-bounds
-    meet-requires
-    tighten-requires
-    first-missing-requires
-    is-empty-requires
-    whole-answer-requires
-    answer-of-requires
-    returns)
+    (tie.spec (λ c κs. search needs) (λ c. search needs) (λ c. search needs) array-copy-out-invariant (λ c. search needs) (λ c κs. search needs)
+    tighten-requires first-missing-requires (λ c κs. search needs) (λ c κs. search needs) (λ c κs. search needs) returns)

@@ -3,15 +3,9 @@ use Rattle.model.specs.Index.{wholeAnswer}
 use Rattle.model.proofs.read.whole_answer.Statement.{statement}
 use Rattle.model.proofs.read.whole_answer.Tie as tie
 
-enum-known-missing : tie.Need-enum-known-missing
-enum-known-missing c = search needs
-
 returns : tie.Need-returns
 unfolding wholeAnswer
 returns c = rw (c .before .missing .given .1)
-
-enum-told : tie.Need-enum-told
-enum-told c = search needs
 
 returns-2 : tie.Need-returns-2
 unfolding wholeAnswer
@@ -22,4 +16,4 @@ unfolding wholeAnswer
 returns-3 c = rw (c .before .enum-told .given .1, c .if1 .left)
 
 pub whole-answer-spec : {M : Type 1} → statement M
-whole-answer-spec = tie.close (tie.spec enum-known-missing returns enum-told returns-2 returns-3)
+whole-answer-spec = tie.close (tie.spec (λ c. search needs) returns (λ c. search needs) returns-2 returns-3)

@@ -87,38 +87,11 @@ joined c =
 within-next : (c : tie.After-with-word Inv-loop μ-loop) → WithinLimits (c .with-word .result)
 within-next c = let k = c .before .before .before in rw (c .with-word .ensures) (limits-with _ _ _ (within k) (sound k))
 
-universe-requires : tie.Need-universe-requires Inv-loop μ-loop
-universe-requires c κs = search needs
-
 loop-holds : tie.Need-loop-holds Inv-loop μ-loop
 unfolding scanned follows tableFollows numbered? mayFollow? follows? tableFollows? all?
 loop-holds c =
     let words = c .before .before .args .list .now in
     (omega arith, limits-nothing, refl, ap (λ u. scanFrom _ _ (replicate 49 u) 0 words) (sym (c .universe .ensures)), record { rule = refl })
-
-mul-word : tie.Need-mul-word Inv-loop μ-loop
-mul-word c = search needs
-
-shared-slice-read-word : tie.Need-shared-slice-read-word Inv-loop μ-loop
-shared-slice-read-word c = search needs
-
-kind-of-requires : tie.Need-kind-of-requires Inv-loop μ-loop
-kind-of-requires c κs = search needs
-
-cast-allowed : tie.Need-cast-allowed Inv-loop μ-loop
-cast-allowed c = search needs
-
-cast-allowed-2 : tie.Need-cast-allowed-2 Inv-loop μ-loop
-cast-allowed-2 c = search needs
-
-mul-allowed : tie.Need-mul-allowed Inv-loop μ-loop
-mul-allowed c = search needs
-
-index-1-allowed : tie.Need-index-1-allowed Inv-loop μ-loop
-index-1-allowed c = search needs
-
-index-2-allowed : tie.Need-index-2-allowed Inv-loop μ-loop
-index-2-allowed c = search needs
 
 -- what the constant table says of the word
 fault-requires : tie.Need-fault-requires Inv-loop μ-loop
@@ -128,18 +101,6 @@ fault-requires c κs =
     let few : read .kind-of .result < 16 = search needs in
     (here .inv .1, model-looked-up (here .inv .4) few (here .inv .1 .opener) ∙ ap (follows? (here .seen .opener)) (read .kind-of .ensures))
 
-enum-told : tie.Need-enum-told Inv-loop μ-loop
-enum-told c = search needs
-
-mul-zones : tie.Need-mul-zones Inv-loop μ-loop
-mul-zones c = search needs
-
-array-set-from-zones : tie.Need-array-set-from-zones Inv-loop μ-loop
-array-set-from-zones c = search needs
-
-at-requires : tie.Need-at-requires Inv-loop μ-loop
-at-requires c κs = search needs
-
 returns : tie.Need-returns Inv-loop μ-loop
 returns c =
     let told = c .before in
@@ -147,32 +108,17 @@ returns c =
     let here = turn checked .loop in
     c .at .ensures ∙ scan-stop _ (here .at) _ _ _ (omega arith) _ (checked .fault .ensures) (faulty told) ∙ sym (here .inv .3)
 
-cell-of-requires : tie.Need-cell-of-requires Inv-loop μ-loop
-cell-of-requires c κs = search needs
-
 mul-old : tie.Need-mul-old Inv-loop μ-loop
 mul-old c = let h = in-table c in search needs
 
 element-copy-out-old : tie.Need-element-copy-out-old Inv-loop μ-loop
 element-copy-out-old c = in-table c
 
-bound-of-requires : tie.Need-bound-of-requires Inv-loop μ-loop
-bound-of-requires c κs = search needs
-
-tighter-of-requires : tie.Need-tighter-of-requires Inv-loop μ-loop
-tighter-of-requires c κs = search needs
-
 mul-t62 : tie.Need-mul-t62 Inv-loop μ-loop
 mul-t62 c = let h = in-table (c .before .before .before) in search needs
 
 element-set-from-current : tie.Need-element-set-from-current Inv-loop μ-loop
 element-set-from-current c = in-table (c .before .before .before)
-
-add-at : tie.Need-add-at Inv-loop μ-loop
-add-at c = search needs
-
-loop-less : tie.Need-loop-less Inv-loop μ-loop
-loop-less c = search needs
 
 loop-again : tie.Need-loop-again Inv-loop μ-loop
 unfolding seenWithKind indexWithKind
@@ -188,54 +134,21 @@ loop-again c =
     (cell .cell-of .ensures) (c .before .bound-of .ensures) (c .tighter-of .ensures)) in
     (go .0, go .1, go .2, go .3, inv .4)
 
-mul-zones-2 : tie.Need-mul-zones-2 Inv-loop μ-loop
-mul-zones-2 c = search needs
-
-array-set-from-zones-2 : tie.Need-array-set-from-zones-2 Inv-loop μ-loop
-array-set-from-zones-2 c = search needs
-
-is-target-requires : tie.Need-is-target-requires Inv-loop μ-loop
-is-target-requires c κs = search needs
-
 element-write-index : tie.Need-element-write-index Inv-loop μ-loop
 element-write-index c =
     let k = c .before .before .before in
     room-location _ _ (within k) (sound k) (named k 2 (c .before .match2 .keys1))
-
-mul-index : tie.Need-mul-index Inv-loop μ-loop
-mul-index c = search needs
-
-element-write-index-2 : tie.Need-element-write-index-2 Inv-loop μ-loop
-element-write-index-2 c = search needs
-
-mul-index-2 : tie.Need-mul-index-2 Inv-loop μ-loop
-mul-index-2 c = search needs
-
-element-write-index-3 : tie.Need-element-write-index-3 Inv-loop μ-loop
-element-write-index-3 c = search needs
-
-mul-t82 : tie.Need-mul-t82 Inv-loop μ-loop
-mul-t82 c = search needs
 
 element-set-from-index : tie.Need-element-set-from-index Inv-loop μ-loop
 element-set-from-index c =
     let k = c .before .before in
     room-edge _ _ (within k) (sound k) (named k 4 (c .match2 .keys3))
 
-with-word-requires : tie.Need-with-word-requires Inv-loop μ-loop
-with-word-requires c κs = search needs
-
 mul-current : tie.Need-mul-current Inv-loop μ-loop
 mul-current c = let h = within-next c in search needs
 
 array-copy-out-current : tie.Need-array-copy-out-current Inv-loop μ-loop
 array-copy-out-current c = let h = within-next c in search needs
-
-add-at-2 : tie.Need-add-at-2 Inv-loop μ-loop
-add-at-2 c = search needs
-
-loop-less-2 : tie.Need-loop-less-2 Inv-loop μ-loop
-loop-less-2 c = search needs
 
 loop-again-2 : tie.Need-loop-again-2 Inv-loop μ-loop
 loop-again-2 c =
@@ -246,21 +159,6 @@ loop-again-2 c =
     scan-go _ _ _ _ _ (omega arith) (inv .1) (inv .2) (inv .3) (sound k) (c .before .with-word .ensures) (joined met)
     (set-getD _ _ noZone ∙ zones-stay _ _ _ (other k 5 (met .before .if1 .left))) in
     (go .0, go .1, go .2, go .3, inv .4)
-
-mul-zones-3 : tie.Need-mul-zones-3 Inv-loop μ-loop
-mul-zones-3 c = search needs
-
-array-set-from-zones-3 : tie.Need-array-set-from-zones-3 Inv-loop μ-loop
-array-set-from-zones-3 c = search needs
-
-last-fault-requires : tie.Need-last-fault-requires Inv-loop μ-loop
-last-fault-requires c κs = search needs
-
-closed-requires : tie.Need-closed-requires Inv-loop μ-loop
-closed-requires c κs = search needs
-
-at-requires-2 : tie.Need-at-requires-2 Inv-loop μ-loop
-at-requires-2 c κs = search needs
 
 returns-2 : tie.Need-returns-2 Inv-loop μ-loop
 returns-2 c =
@@ -273,54 +171,10 @@ returns-2 c =
 pub scan-spec : {M : Type 1} → statement M
 scan-spec =
     tie.close
-    (tie.spec
-    Inv-loop
-    μ-loop
-    universe-requires
-    loop-holds
-    mul-word
-    shared-slice-read-word
-    kind-of-requires
-    cast-allowed
-    cast-allowed-2
-    mul-allowed
-    index-1-allowed
-    index-2-allowed
-    fault-requires
-    enum-told
-    mul-zones
-    array-set-from-zones
-    at-requires
-    returns
-    cell-of-requires
-    mul-old
-    element-copy-out-old
-    bound-of-requires
-    tighter-of-requires
-    mul-t62
-    element-set-from-current
-    add-at
-    loop-less
-    loop-again
-    mul-zones-2
-    array-set-from-zones-2
-    is-target-requires
-    element-write-index
-    mul-index
-    element-write-index-2
-    mul-index-2
-    element-write-index-3
-    mul-t82
-    element-set-from-index
-    with-word-requires
-    mul-current
-    array-copy-out-current
-    add-at-2
-    loop-less-2
-    loop-again-2
-    mul-zones-3
-    array-set-from-zones-3
-    last-fault-requires
-    closed-requires
-    at-requires-2
-    returns-2)
+    (tie.spec Inv-loop μ-loop (λ c κs. search needs) loop-holds (λ c. search needs) (λ c. search needs) (λ c κs. search needs) (λ c. search needs)
+    (λ c. search needs) (λ c. search needs) (λ c. search needs) (λ c. search needs) fault-requires (λ c. search needs) (λ c. search needs)
+    (λ c. search needs) (λ c κs. search needs) returns (λ c κs. search needs) mul-old element-copy-out-old (λ c κs. search needs)
+    (λ c κs. search needs) mul-t62 element-set-from-current (λ c. search needs) (λ c. search needs) loop-again (λ c. search needs) (λ c. search needs)
+    (λ c κs. search needs) element-write-index (λ c. search needs) (λ c. search needs) (λ c. search needs) (λ c. search needs) (λ c. search needs)
+    element-set-from-index (λ c κs. search needs) mul-current array-copy-out-current (λ c. search needs) (λ c. search needs) loop-again-2
+    (λ c. search needs) (λ c. search needs) (λ c κs. search needs) (λ c κs. search needs) (λ c κs. search needs) returns-2)

@@ -2,11 +2,8 @@ use borrow.Author.Needs.{needs}
 use Rattle.table.proofs.fields.head_fields.Statement.{statement}
 use Rattle.table.proofs.fields.head_fields.Tie as tie
 
-whole-of-requires : tie.Need-whole-of-requires
-whole-of-requires c κs = search needs
-
 returns : tie.Need-returns
 returns c = rw (c .whole-of .ensures .0)
 
 pub head-fields-spec : {M : Type 1} → statement M
-head-fields-spec = tie.close (tie.spec whole-of-requires returns)
+head-fields-spec = tie.close (tie.spec (λ c κs. search needs) returns)

@@ -3,14 +3,8 @@ use Rattle.model.proofs.FieldLaws.{lowest}
 use Rattle.table.proofs.fields.node_fields.Statement.{statement}
 use Rattle.table.proofs.fields.node_fields.Tie as tie
 
-location-of-requires : tie.Need-location-of-requires
-location-of-requires c κs = search needs
-
-cast-result : tie.Need-cast-result
-cast-result c = search needs
-
 returns : tie.Need-returns
 returns c = rw (lowest (c .before .args .word) 16777216, c .location-of .ensures .0)
 
 pub node-fields-spec : {M : Type 1} → statement M
-node-fields-spec = tie.close (tie.spec location-of-requires cast-result returns)
+node-fields-spec = tie.close (tie.spec (λ c κs. search needs) (λ c. search needs) returns)

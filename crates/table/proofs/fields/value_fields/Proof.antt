@@ -2,11 +2,8 @@ use borrow.Author.Needs.{needs}
 use Rattle.table.proofs.fields.value_fields.Statement.{statement}
 use Rattle.table.proofs.fields.value_fields.Tie as tie
 
-value-of-requires : tie.Need-value-of-requires
-value-of-requires c κs = search needs
-
 returns : tie.Need-returns
 returns c = rw (c .value-of .ensures .0)
 
 pub value-fields-spec : {M : Type 1} → statement M
-value-fields-spec = tie.close (tie.spec value-of-requires returns)
+value-fields-spec = tie.close (tie.spec (λ c κs. search needs) returns)

@@ -3,21 +3,6 @@ use Rattle.table.specs.Index.{answerOf}
 use Rattle.table.proofs.read.answer_of.Statement.{statement}
 use Rattle.table.proofs.read.answer_of.Tie as tie
 
-enum-told : tie.Need-enum-told
-enum-told c = search needs
-
-numbers-answer-requires : tie.Need-numbers-answer-requires
-numbers-answer-requires c κs = search needs
-
-enum-told-2 : tie.Need-enum-told-2
-enum-told-2 c = search needs
-
-enum-told-3 : tie.Need-enum-told-3
-enum-told-3 c = search needs
-
-enum-told-4 : tie.Need-enum-told-4
-enum-told-4 c = search needs
-
 returns : tie.Need-returns
 unfolding answerOf
 returns c = rw (c .before .enum-told .given .1) (c .numbers-answer .ensures)
@@ -37,4 +22,4 @@ returns-4 c = rw (c .enum-told4 .given .1)
 pub answer-of-spec : {M : Type 1} → statement M
 answer-of-spec =
     tie.close
-    (tie.spec enum-told numbers-answer-requires enum-told-2 enum-told-3 enum-told-4 returns returns-2 returns-3 returns-4)
+    (tie.spec (λ c. search needs) (λ c κs. search needs) (λ c. search needs) (λ c. search needs) (λ c. search needs) returns returns-2 returns-3 returns-4)

@@ -3,12 +3,6 @@ use Rattle.table.proofs.Reading.{returned}
 use Rattle.table.proofs.read.index_table.Statement.{statement}
 use Rattle.table.proofs.read.index_table.Tie as tie
 
-scan-requires : tie.Need-scan-requires
-scan-requires c κs = search needs
-
-answer-of-requires : tie.Need-answer-of-requires
-answer-of-requires c κs = search needs
-
 returns : tie.Need-returns
 returns c =
     let scan = c .before .before .before .before in
@@ -16,4 +10,4 @@ returns c =
 
 pub index-table-spec : {M : Type 1} → statement M
 index-table-spec =
-    tie.close (tie.spec scan-requires answer-of-requires returns)
+    tie.close (tie.spec (λ c κs. search needs) (λ c κs. search needs) returns)

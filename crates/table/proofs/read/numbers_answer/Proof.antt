@@ -15,36 +15,12 @@ Inv-loop list nodes at₀ at-end at =
 abbrev μ-loop : tie.MeasureT-loop
 μ-loop list nodes at₀ at-end at = length list - at
 
-loop-holds : tie.Need-loop-holds Inv-loop μ-loop
-loop-holds c = (omega arith, refl)
-
-mul-word : tie.Need-mul-word Inv-loop μ-loop
-mul-word c = search needs
-
-shared-slice-read-word : tie.Need-shared-slice-read-word Inv-loop μ-loop
-shared-slice-read-word c = search needs
-
-kind-of-requires : tie.Need-kind-of-requires Inv-loop μ-loop
-kind-of-requires c κs = search needs
-
-number-of-requires : tie.Need-number-of-requires Inv-loop μ-loop
-number-of-requires c κs = search needs
-
-cast-if1 : tie.Need-cast-if1 Inv-loop μ-loop
-cast-if1 c = search needs
-
 returns : tie.Need-returns Inv-loop μ-loop
 returns c =
     let turn = c .before .before .before .before .before in
     numbers-here _ (turn .loop .at) _ (omega arith)
     (rw (c .before .before .kind-of .ensures, c .before .number-of .ensures .0) at (c .if1 .taken))
     ∙ sym (turn .loop .inv .1)
-
-add-at : tie.Need-add-at Inv-loop μ-loop
-add-at c = search needs
-
-loop-less : tie.Need-loop-less Inv-loop μ-loop
-loop-less c = search needs
 
 loop-again : tie.Need-loop-again Inv-loop μ-loop
 loop-again c =
@@ -61,17 +37,5 @@ returns-2 c = numbers-end _ _ _ (c .loop-test .left) ∙ sym (c .before .loop .i
 pub numbers-answer-spec : {M : Type 1} → statement M
 numbers-answer-spec =
     tie.close
-    (tie.spec
-    Inv-loop
-    μ-loop
-    loop-holds
-    mul-word
-    shared-slice-read-word
-    kind-of-requires
-    number-of-requires
-    cast-if1
-    returns
-    add-at
-    loop-less
-    loop-again
-    returns-2)
+    (tie.spec Inv-loop μ-loop (λ c. (omega arith, refl)) (λ c. search needs) (λ c. search needs) (λ c κs. search needs) (λ c κs. search needs)
+    (λ c. search needs) returns (λ c. search needs) (λ c. search needs) loop-again returns-2)

@@ -160,9 +160,6 @@ joined c =
     )))))
     (c .match2 .came)
 
-universe-requires : tie.Need-universe-requires Inv-loop μ-loop
-universe-requires c κs = search needs
-
 loop-holds : tie.Need-loop-holds Inv-loop μ-loop
 unfolding scanned follows tableFollows numbered? mayFollow? follows? tableFollows? all?
 loop-holds c =
@@ -170,30 +167,6 @@ loop-holds c =
     let words = start .args .list .now in
     let same = ap (λ u. scanFrom (start .args .t1) _ _ (replicate 64 u) 0 words) (sym (c .universe .ensures)) in
     (omega arith, limits-nothing _, refl, refl, refl, same, record { rule = refl })
-
-mul-word : tie.Need-mul-word Inv-loop μ-loop
-mul-word c = search needs
-
-shared-slice-read-word : tie.Need-shared-slice-read-word Inv-loop μ-loop
-shared-slice-read-word c = search needs
-
-kind-of-requires : tie.Need-kind-of-requires Inv-loop μ-loop
-kind-of-requires c κs = search needs
-
-cast-allowed : tie.Need-cast-allowed Inv-loop μ-loop
-cast-allowed c = search needs
-
-cast-allowed-2 : tie.Need-cast-allowed-2 Inv-loop μ-loop
-cast-allowed-2 c = search needs
-
-mul-allowed : tie.Need-mul-allowed Inv-loop μ-loop
-mul-allowed c = search needs
-
-index-1-allowed : tie.Need-index-1-allowed Inv-loop μ-loop
-index-1-allowed c = search needs
-
-index-2-allowed : tie.Need-index-2-allowed Inv-loop μ-loop
-index-2-allowed c = search needs
 
 -- what the constant table says of the word
 fault-requires : tie.Need-fault-requires Inv-loop μ-loop
@@ -203,17 +176,8 @@ fault-requires c κs =
     let few : read .kind-of .result < 16 = search needs in
     table-looked-up (here .inv .6) few (here .inv .1 .opener) ∙ ap (tableFollows? (here .seen .opener)) (read .kind-of .ensures)
 
-enum-told : tie.Need-enum-told Inv-loop μ-loop
-enum-told c = search needs
-
-mul-zones : tie.Need-mul-zones Inv-loop μ-loop
-mul-zones c = search needs
-
 array-set-from-zones : tie.Need-array-set-from-zones Inv-loop μ-loop
 array-set-from-zones c = slot (turn (c .before))
-
-at-requires : tie.Need-at-requires Inv-loop μ-loop
-at-requires c κs = search needs
 
 returns : tie.Need-returns Inv-loop μ-loop
 returns c =
@@ -221,20 +185,11 @@ returns c =
     let here = turn (told .before) .loop in
     c .at .ensures ∙ scan-stop _ _ (here .at) _ _ _ (omega arith) _ (told .before .fault .ensures) (faulty told) ∙ sym (here .inv .5)
 
-cell-of-requires : tie.Need-cell-of-requires Inv-loop μ-loop
-cell-of-requires c κs = search needs
-
 mul-old : tie.Need-mul-old Inv-loop μ-loop
 mul-old c = let there = cell (c) in omega arith
 
 element-copy-out-old : tie.Need-element-copy-out-old Inv-loop μ-loop
 element-copy-out-old c = cell c
-
-bound-of-requires : tie.Need-bound-of-requires Inv-loop μ-loop
-bound-of-requires c κs = search needs
-
-tighter-of-requires : tie.Need-tighter-of-requires Inv-loop μ-loop
-tighter-of-requires c κs = search needs
 
 mul-t57 : tie.Need-mul-t57 Inv-loop μ-loop
 mul-t57 c = let there = cell (c .before .before .before) in omega arith
@@ -242,26 +197,14 @@ mul-t57 c = let there = cell (c .before .before .before) in omega arith
 element-set-from-current : tie.Need-element-set-from-current Inv-loop μ-loop
 element-set-from-current c = cell (c .before .before .before)
 
-mul-zones-2 : tie.Need-mul-zones-2 Inv-loop μ-loop
-mul-zones-2 c = search needs
-
 array-set-from-zones-2 : tie.Need-array-set-from-zones-2 Inv-loop μ-loop
 array-set-from-zones-2 c = slot (turn (checked (c .before)))
-
-mul-current : tie.Need-mul-current Inv-loop μ-loop
-mul-current c = search needs
 
 array-copy-out-current : tie.Need-array-copy-out-current Inv-loop μ-loop
 array-copy-out-current c = room c
 
 with-node-requires : tie.Need-with-node-requires Inv-loop μ-loop
 with-node-requires c κs = within (c .before .before) .nodes
-
-of-requires : tie.Need-of-requires Inv-loop μ-loop
-of-requires c κs = search needs
-
-mul-nodes : tie.Need-mul-nodes Inv-loop μ-loop
-mul-nodes c = search needs
 
 array-set-from-nodes : tie.Need-array-set-from-nodes Inv-loop μ-loop
 array-set-from-nodes c = slot (turn (checked (c .before .before)))
@@ -284,23 +227,8 @@ mul-with-value-2 c = let there = valued (c .before .before .before) in omega ari
 element-copy-out-with-value-3 : tie.Need-element-copy-out-with-value-3 Inv-loop μ-loop
 element-copy-out-with-value-3 c = let there = valued (c .before .before .before) in omega arith
 
-with-value-requires : tie.Need-with-value-requires Inv-loop μ-loop
-with-value-requires c κs = search needs
-
-add-with-successor : tie.Need-add-with-successor Inv-loop μ-loop
-add-with-successor c = search needs
-
-mul-with-successor : tie.Need-mul-with-successor Inv-loop μ-loop
-mul-with-successor c = search needs
-
 element-copy-out-with-successor : tie.Need-element-copy-out-with-successor Inv-loop μ-loop
 element-copy-out-with-successor c = let row = due c in omega arith
-
-mul-with-successor-2 : tie.Need-mul-with-successor-2 Inv-loop μ-loop
-mul-with-successor-2 c = search needs
-
-element-copy-out-with-successor-2 : tie.Need-element-copy-out-with-successor-2 Inv-loop μ-loop
-element-copy-out-with-successor-2 c = search needs
 
 sub-with-successor : tie.Need-sub-with-successor Inv-loop μ-loop
 sub-with-successor c = let row = due (c .before .before) in row .0
@@ -316,12 +244,6 @@ with-word-requires c κs =
     let last = within k .last in
     (within k .nodes, omega arith, ne-eqb _ _ (other k 9 (r .0 .1)), ne-eqb _ _ (other k 11 (r .1)))
 
-add-at : tie.Need-add-at Inv-loop μ-loop
-add-at c = search needs
-
-loop-less : tie.Need-loop-less Inv-loop μ-loop
-loop-less c = search needs
-
 loop-again : tie.Need-loop-again Inv-loop μ-loop
 loop-again c =
     let k = c .before in
@@ -330,17 +252,8 @@ loop-again c =
     let go = scan-go _ _ _ _ _ _ (omega arith) (fits k) (inv .1) (inv .2) (inv .5) (sound k) (now .0) (now .1) (now .2 .zones) in
     (go .0, go .1, go .2, now .2 .room, now .2 .slot ∙ ap (λ s. s .nodes - 1) (sym (now .0)), go .3, inv .6)
 
-mul-zones-3 : tie.Need-mul-zones-3 Inv-loop μ-loop
-mul-zones-3 c = search needs
-
 array-set-from-zones-3 : tie.Need-array-set-from-zones-3 Inv-loop μ-loop
 array-set-from-zones-3 c = slot (c .before)
-
-last-fault-requires : tie.Need-last-fault-requires Inv-loop μ-loop
-last-fault-requires c κs = search needs
-
-at-requires-2 : tie.Need-at-requires-2 Inv-loop μ-loop
-at-requires-2 c κs = search needs
 
 returns-2 : tie.Need-returns-2 Inv-loop μ-loop
 returns-2 c =
@@ -353,60 +266,12 @@ returns-2 c =
 pub scan-spec : {M : Type 1} → statement M
 scan-spec =
     tie.close
-    (tie.spec
-    Inv-loop
-    μ-loop
-    universe-requires
-    loop-holds
-    mul-word
-    shared-slice-read-word
-    kind-of-requires
-    cast-allowed
-    cast-allowed-2
-    mul-allowed
-    index-1-allowed
-    index-2-allowed
-    fault-requires
-    enum-told
-    mul-zones
-    array-set-from-zones
-    at-requires
-    returns
-    cell-of-requires
-    mul-old
-    element-copy-out-old
-    bound-of-requires
-    tighter-of-requires
-    mul-t57
-    element-set-from-current
-    mul-zones-2
-    array-set-from-zones-2
-    mul-current
-    array-copy-out-current
-    with-node-requires
-    of-requires
-    mul-nodes
-    array-set-from-nodes
-    element-copy-out-with-value
-    mul-with-value
-    element-copy-out-with-value-2
-    add-with-value
-    mul-with-value-2
-    element-copy-out-with-value-3
-    with-value-requires
-    add-with-successor
-    mul-with-successor
-    element-copy-out-with-successor
-    mul-with-successor-2
-    element-copy-out-with-successor-2
-    sub-with-successor
-    with-successor-requires
-    with-word-requires
-    add-at
-    loop-less
-    loop-again
-    mul-zones-3
-    array-set-from-zones-3
-    last-fault-requires
-    at-requires-2
-    returns-2)
+    (tie.spec Inv-loop μ-loop (λ c κs. search needs) loop-holds (λ c. search needs) (λ c. search needs) (λ c κs. search needs) (λ c. search needs)
+    (λ c. search needs) (λ c. search needs) (λ c. search needs) (λ c. search needs) fault-requires (λ c. search needs) (λ c. search needs)
+    array-set-from-zones (λ c κs. search needs) returns (λ c κs. search needs) mul-old element-copy-out-old (λ c κs. search needs)
+    (λ c κs. search needs) mul-t57 element-set-from-current (λ c. search needs) array-set-from-zones-2 (λ c. search needs) array-copy-out-current
+    with-node-requires (λ c κs. search needs) (λ c. search needs) array-set-from-nodes element-copy-out-with-value mul-with-value
+    element-copy-out-with-value-2 add-with-value mul-with-value-2 element-copy-out-with-value-3 (λ c κs. search needs) (λ c. search needs)
+    (λ c. search needs) element-copy-out-with-successor (λ c. search needs) (λ c. search needs) sub-with-successor with-successor-requires
+    with-word-requires (λ c. search needs) (λ c. search needs) loop-again (λ c. search needs) array-set-from-zones-3 (λ c κs. search needs)
+    (λ c κs. search needs) returns-2)

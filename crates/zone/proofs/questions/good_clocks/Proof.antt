@@ -2,8 +2,5 @@ use mathlib.Core.Path.{refl}
 use Rattle.zone.proofs.questions.good_clocks.Statement.{statement}
 use Rattle.zone.proofs.questions.good_clocks.Tie as tie
 
-returns : tie.Need-returns
-returns c = refl
-
 pub good-clocks-spec : {M : Type 1} → statement M
-good-clocks-spec = tie.close (tie.spec returns)
+good-clocks-spec = tie.close (tie.spec (λ c. refl))

@@ -41,20 +41,8 @@ in-table c =
     let j = good-second _ _ (good (c .before)) in
     omega (arith, c .cell-of .ensures)
 
-universe-requires : tie.Need-universe-requires Inv-loop μ-loop
-universe-requires c κs = search needs
-
 loop-holds : tie.Need-loop-holds Inv-loop μ-loop
 loop-holds c = (omega arith, ap (readFrom _ _ _) (sym (c .universe .ensures)))
-
-mul-word : tie.Need-mul-word Inv-loop μ-loop
-mul-word c = search needs
-
-shared-slice-read-word : tie.Need-shared-slice-read-word Inv-loop μ-loop
-shared-slice-read-word c = search needs
-
-good-bound-requires : tie.Need-good-bound-requires Inv-loop μ-loop
-good-bound-requires c κs = search needs
 
 returns : tie.Need-returns Inv-loop μ-loop
 unfolding readZone
@@ -62,32 +50,17 @@ returns c =
     let turn = c .before .before .before .before .loop in
     loop-bad _ _ (turn .at) _ (omega arith) (sym (c .before .good-bound .ensures) ∙ not-true _ (c .if1 .taken)) ∙ sym (turn .inv .1)
 
-cell-of-requires : tie.Need-cell-of-requires Inv-loop μ-loop
-cell-of-requires c κs = search needs
-
 mul-old : tie.Need-mul-old Inv-loop μ-loop
 mul-old c = let h = in-table c in search needs
 
 element-copy-out-old : tie.Need-element-copy-out-old Inv-loop μ-loop
 element-copy-out-old c = in-table c
 
-bound-of-requires : tie.Need-bound-of-requires Inv-loop μ-loop
-bound-of-requires c κs = search needs
-
-tighter-of-requires : tie.Need-tighter-of-requires Inv-loop μ-loop
-tighter-of-requires c κs = search needs
-
 mul-t11 : tie.Need-mul-t11 Inv-loop μ-loop
 mul-t11 c = let h = in-table (c .before .before .before) in search needs
 
 element-set-from-zone : tie.Need-element-set-from-zone Inv-loop μ-loop
 element-set-from-zone c = in-table (c .before .before .before)
-
-add-at : tie.Need-add-at Inv-loop μ-loop
-add-at c = search needs
-
-loop-less : tie.Need-loop-less Inv-loop μ-loop
-loop-less c = search needs
 
 loop-again : tie.Need-loop-again Inv-loop μ-loop
 loop-again c =
@@ -106,23 +79,6 @@ returns-2 c = loop-end _ _ _ _ (c .before .loop .inv .0) (c .loop-test .left) �
 pub read-zone-spec : {M : Type 1} → statement M
 read-zone-spec =
     tie.close
-    (tie.spec
-    Inv-loop
-    μ-loop
-    universe-requires
-    loop-holds
-    mul-word
-    shared-slice-read-word
-    good-bound-requires
-    returns
-    cell-of-requires
-    mul-old
-    element-copy-out-old
-    bound-of-requires
-    tighter-of-requires
-    mul-t11
-    element-set-from-zone
-    add-at
-    loop-less
-    loop-again
-    returns-2)
+    (tie.spec Inv-loop μ-loop (λ c κs. search needs) loop-holds (λ c. search needs) (λ c. search needs) (λ c κs. search needs) returns
+    (λ c κs. search needs) mul-old element-copy-out-old (λ c κs. search needs) (λ c κs. search needs) mul-t11 element-set-from-zone
+    (λ c. search needs) (λ c. search needs) loop-again returns-2)

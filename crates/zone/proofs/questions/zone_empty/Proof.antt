@@ -9,9 +9,6 @@ use Rattle.zone.proofs.Decided.{clocks-few, GoodRead, answers-empty, cl
 use Rattle.zone.proofs.questions.zone_empty.Statement.{statement}
 use Rattle.zone.proofs.questions.zone_empty.Tie as tie
 
-good-clocks-requires : tie.Need-good-clocks-requires
-good-clocks-requires c κs = search needs
-
 returns : tie.Need-returns
 returns c = answers-empty _ _ _ (clocks-empty _ _ (sym (c .before .good-clocks .ensures) ∙ not-true _ (c .if1 .taken)))
 
@@ -34,9 +31,6 @@ read c = record { clocks = clocks (c .before .before .before); reads = c .before
 tighten-requires : tie.Need-tighten-requires
 tighten-requires c κs = read-fits _ _ _ (read (c .before) .reads)
 
-is-empty-requires : tie.Need-is-empty-requires
-is-empty-requires c κs = search needs
-
 returns-3 : tie.Need-returns-3
 returns-3 c =
     answers-empty _ _ _
@@ -52,12 +46,4 @@ returns-4 c =
 pub zone-empty-spec : {M : Type 1} → statement M
 zone-empty-spec =
     tie.close
-    (tie.spec
-    good-clocks-requires
-    returns
-    read-zone-requires
-    returns-2
-    tighten-requires
-    is-empty-requires
-    returns-3
-    returns-4)
+    (tie.spec (λ c κs. search needs) returns read-zone-requires returns-2 tighten-requires (λ c κs. search needs) returns-3 returns-4)

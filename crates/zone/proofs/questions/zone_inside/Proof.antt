@@ -19,9 +19,6 @@ use Rattle.zone.proofs.Decided.{
 use Rattle.zone.proofs.questions.zone_inside.Statement.{statement}
 use Rattle.zone.proofs.questions.zone_inside.Tie as tie
 
-good-clocks-requires : tie.Need-good-clocks-requires
-good-clocks-requires c κs = search needs
-
 returns : tie.Need-returns
 returns c = answers-inside _ _ _ _ (clocks-inside _ _ _ (sym (c .before .good-clocks .ensures) ∙ not-true _ (c .if1 .taken)))
 
@@ -66,17 +63,11 @@ read-second c = record {
 tighten-requires : tie.Need-tighten-requires
 tighten-requires c κs = read-fits _ _ _ (read-first (c .before .before .before .before) .reads)
 
-is-empty-requires : tie.Need-is-empty-requires
-is-empty-requires c κs = search needs
-
 returns-4 : tie.Need-returns-4
 returns-4 c =
     answers-inside _ _ _ _
     (empty-inside _ _ _ (read-first (c .before .before .before .before .before .before .before)) (read-second (c .before .before .before .before))
     (c .before .before .tighten .ensures) (sym (c .before .is-empty .ensures) ∙ c .if4 .taken))
-
-inside-requires : tie.Need-inside-requires
-inside-requires c κs = search needs
 
 returns-5 : tie.Need-returns-5
 returns-5 c =
@@ -99,16 +90,5 @@ returns-6 c =
 pub zone-inside-spec : {M : Type 1} → statement M
 zone-inside-spec =
     tie.close
-    (tie.spec
-    good-clocks-requires
-    returns
-    read-zone-requires
-    returns-2
-    read-zone-requires-2
-    returns-3
-    tighten-requires
-    is-empty-requires
-    returns-4
-    inside-requires
-    returns-5
-    returns-6)
+    (tie.spec (λ c κs. search needs) returns read-zone-requires returns-2 read-zone-requires-2 returns-3 tighten-requires (λ c κs. search needs)
+    returns-4 (λ c κs. search needs) returns-5 returns-6)

@@ -3,9 +3,6 @@ use Rattle.zone.proofs.WordLaws.{number-fits, cell-is}
 use Rattle.zone.proofs.words.bound_of.Statement.{statement}
 use Rattle.zone.proofs.words.bound_of.Tie as tie
 
-cast-t3 : tie.Need-cast-t3
-cast-t3 c = search needs
-
 sub-t4 : tie.Need-sub-t4
 sub-t4 c = number-fits (c .args .word)
 
@@ -13,4 +10,4 @@ returns : tie.Need-returns
 returns c = cell-is (c .args .word)
 
 pub bound-of-spec : {M : Type 1} → statement M
-bound-of-spec = tie.close (tie.spec cast-t3 sub-t4 returns)
+bound-of-spec = tie.close (tie.spec (λ c. search needs) sub-t4 returns)

@@ -3,15 +3,9 @@ use Rattle.zone.specs.Words.{goodBound?}
 use Rattle.zone.proofs.words.good_bound.Statement.{statement}
 use Rattle.zone.proofs.words.good_bound.Tie as tie
 
-kind-of-requires : tie.Need-kind-of-requires
-kind-of-requires c κs = search needs
-
-bound-fields-requires : tie.Need-bound-fields-requires
-bound-fields-requires c κs = search needs
-
 returns : tie.Need-returns
 unfolding goodBound?
 returns c = rw (c .before .kind-of .ensures, c .bound-fields .ensures)
 
 pub good-bound-spec : {M : Type 1} → statement M
-good-bound-spec = tie.close (tie.spec kind-of-requires bound-fields-requires returns)
+good-bound-spec = tie.close (tie.spec (λ c κs. search needs) (λ c κs. search needs) returns)

@@ -5,9 +5,6 @@ use Rattle.zone.specs.Squares.{source}
 use Rattle.zone.proofs.zones.source_of.Statement.{statement}
 use Rattle.zone.proofs.zones.source_of.Tie as tie
 
-masked-requires : tie.Need-masked-requires
-masked-requires c κs = search needs
-
 returns : tie.Need-returns
 unfolding source
 returns c = (simp (sym (c .before .masked .ensures) ∙ c .if1 .taken), omega arith)
@@ -17,4 +14,4 @@ unfolding source
 returns-2 c = (simp (sym (c .before .masked .ensures) ∙ c .if1 .left), omega arith)
 
 pub source-of-spec : {M : Type 1} → statement M
-source-of-spec = tie.close (tie.spec masked-requires returns returns-2)
+source-of-spec = tie.close (tie.spec (λ c κs. search needs) returns returns-2)

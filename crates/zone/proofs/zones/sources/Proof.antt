@@ -3,21 +3,6 @@ use Rattle.zone.specs.Squares.{listOf}
 use Rattle.zone.proofs.zones.sources.Statement.{statement}
 use Rattle.zone.proofs.zones.sources.Tie as tie
 
-source-of-requires : tie.Need-source-of-requires
-source-of-requires c κs = search needs
-
-source-of-requires-2 : tie.Need-source-of-requires-2
-source-of-requires-2 c κs = search needs
-
-source-of-requires-3 : tie.Need-source-of-requires-3
-source-of-requires-3 c κs = search needs
-
-source-of-requires-4 : tie.Need-source-of-requires-4
-source-of-requires-4 c κs = search needs
-
-source-of-requires-5 : tie.Need-source-of-requires-5
-source-of-requires-5 c κs = search needs
-
 returns : tie.Need-returns
 unfolding listOf
 returns c =
@@ -35,10 +20,4 @@ returns c =
 pub sources-spec : {M : Type 1} → statement M
 sources-spec =
     tie.close
-    (tie.spec
-    source-of-requires
-    source-of-requires-2
-    source-of-requires-3
-    source-of-requires-4
-    source-of-requires-5
-    returns)
+    (tie.spec (λ c κs. search needs) (λ c κs. search needs) (λ c κs. search needs) (λ c κs. search needs) (λ c κs. search needs) returns)

@@ -8,15 +8,6 @@ use Rattle.judge_line.proofs.Decimals.{twenty, in-decimal}
 use Rattle.judge_line.proofs.text.Line.with_number.Statement.{statement}
 use Rattle.judge_line.proofs.text.Line.with_number.Tie as tie
 
-decimal-requires : tie.Need-decimal-requires
-decimal-requires c κs = search needs
-
-array-share-prefix-digits : tie.Need-array-share-prefix-digits
-array-share-prefix-digits c = search needs
-
-slice-aggregate-with-text : tie.Need-slice-aggregate-with-text
-slice-aggregate-with-text c = search needs
-
 with-text-requires : tie.Need-with-text-requires
 with-text-requires c κs =
     let call = c .before .decimal in
@@ -35,9 +26,4 @@ returns c =
 pub with-number-spec : {M : Type 1} → statement M
 with-number-spec =
     tie.close
-    (tie.spec
-    decimal-requires
-    array-share-prefix-digits
-    slice-aggregate-with-text
-    with-text-requires
-    returns)
+    (tie.spec (λ c κs. search needs) (λ c. search needs) (λ c. search needs) with-text-requires returns)

@@ -33,27 +33,9 @@ loop-holds c =
     let line = c .args .self in
     (omega arith, simp length-map at (c .good .0 .1 .1 .0 .1 .0 .1), paste-zero (line .bytes) (line .count) (c .args .text .now))
 
-shared-slice-read-line : tie.Need-shared-slice-read-line Inv-loop μ-loop
-shared-slice-read-line c = search needs
-
-add-line : tie.Need-add-line Inv-loop μ-loop
-add-line c = search needs
-
-element-write-line : tie.Need-element-write-line Inv-loop μ-loop
-element-write-line c = search needs
-
-add-k : tie.Need-add-k Inv-loop μ-loop
-add-k c = search needs
-
-loop-less : tie.Need-loop-less Inv-loop μ-loop
-loop-less c = search needs
-
 loop-again : tie.Need-loop-again Inv-loop μ-loop
 loop-again c =
     let inv = c .before .before .before .loop .inv in (omega arith, inv .1, byte-more _ _ _ _ (inv .2) (omega arith) (omega arith))
-
-add-line-2 : tie.Need-add-line-2 Inv-loop μ-loop
-add-line-2 c = search needs
 
 returns : tie.Need-returns Inv-loop μ-loop
 returns c =
@@ -64,15 +46,5 @@ returns c =
 pub with-text-spec : {M : Type 1} → statement M
 with-text-spec =
     tie.close
-    (tie.spec
-    Inv-loop
-    μ-loop
-    loop-holds
-    shared-slice-read-line
-    add-line
-    element-write-line
-    add-k
-    loop-less
-    loop-again
-    add-line-2
-    returns)
+    (tie.spec Inv-loop μ-loop loop-holds (λ c. search needs) (λ c. search needs) (λ c. search needs) (λ c. search needs) (λ c. search needs)
+    loop-again (λ c. search needs) returns)

@@ -19,32 +19,11 @@ abbrev μ-loop : tie.MeasureT-loop
 sized : (c : tie.Start Inv-loop μ-loop) → c .args .edges ≤ length (c .args .t1 .words)
 sized c = let size = simp length-map at (c .good .0 .1 .1 .1 .1 .1 .1 .1 .1 .1 .0 .1 .0 .1) in omega arith
 
-loop-holds : tie.Need-loop-holds Inv-loop μ-loop
-loop-holds c = (omega arith, refl)
-
-mul-edge : tie.Need-mul-edge Inv-loop μ-loop
-mul-edge c = search needs
-
-element-copy-out-edge : tie.Need-element-copy-out-edge Inv-loop μ-loop
-element-copy-out-edge c = search needs
-
-lands-at-requires : tie.Need-lands-at-requires Inv-loop μ-loop
-lands-at-requires c κs = search needs
-
-cast-if1 : tie.Need-cast-if1 Inv-loop μ-loop
-cast-if1 c = search needs
-
 returns : tie.Need-returns Inv-loop μ-loop
 returns c =
     let turn = c .before .before .before .before in
     missing-here _ _ _ (sized (turn .before)) (turn .loop .e) (omega arith) (rw (c .before .lands-at .ensures .0) at (c .if1 .taken))
     ∙ sym (turn .loop .inv .1)
-
-add-e : tie.Need-add-e Inv-loop μ-loop
-add-e c = search needs
-
-loop-less : tie.Need-loop-less Inv-loop μ-loop
-loop-less c = search needs
 
 loop-again : tie.Need-loop-again Inv-loop μ-loop
 loop-again c =
@@ -60,16 +39,5 @@ returns-2 c = missing-end _ _ _ (sized (c .before .before)) _ (c .loop-test .lef
 pub first-missing-spec : {M : Type 1} → statement M
 first-missing-spec =
     tie.close
-    (tie.spec
-    Inv-loop
-    μ-loop
-    loop-holds
-    mul-edge
-    element-copy-out-edge
-    lands-at-requires
-    cast-if1
-    returns
-    add-e
-    loop-less
-    loop-again
-    returns-2)
+    (tie.spec Inv-loop μ-loop (λ c. (omega arith, refl)) (λ c. search needs) (λ c. search needs) (λ c κs. search needs) (λ c. search needs) returns
+    (λ c. search needs) (λ c. search needs) loop-again returns-2)

@@ -16,15 +16,9 @@ returns c = rw (failed (c .before .pre .1) (c .if1 .taken))
 follows : (c : tie.Else1) → follows? (c .before .args .self .opener) (kind (c .before .args .word)) ≡ true
 follows c = passed (c .before .pre .1) (c .if1 .left)
 
-fields-requires : tie.Need-fields-requires
-fields-requires c κs = search needs
-
 returns-2 : tie.Need-returns-2
 unfolding faultAt
 returns-2 c = rw (follows (c .before .before), failed (c .before .fields .ensures) (c .if2 .taken))
-
-limit-requires : tie.Need-limit-requires
-limit-requires c κs = search needs
 
 returns-3 : tie.Need-returns-3
 unfolding faultAt
@@ -34,9 +28,6 @@ returns-3 c =
       passed (c .before .before .before .fields .ensures) (c .before .before .if2 .left),
       failed (c .before .limit .ensures) (c .if3 .taken),
     )
-
-adds-requires : tie.Need-adds-requires
-adds-requires c κs = search needs
 
 returns-4 : tie.Need-returns-4
 unfolding faultAt
@@ -61,12 +52,4 @@ returns-5 c =
 pub fault-spec : {M : Type 1} → statement M
 fault-spec =
     tie.close
-    (tie.spec
-    returns
-    fields-requires
-    returns-2
-    limit-requires
-    returns-3
-    adds-requires
-    returns-4
-    returns-5)
+    (tie.spec returns (λ c κs. search needs) returns-2 (λ c κs. search needs) returns-3 (λ c κs. search needs) returns-4 returns-5)

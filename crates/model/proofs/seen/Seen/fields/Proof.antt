@@ -9,30 +9,6 @@ use Rattle.model.proofs.WordChecks.{fields-at}
 use Rattle.model.proofs.seen.Seen.fields.Statement.{statement}
 use Rattle.model.proofs.seen.Seen.fields.Tie as tie
 
-kind-of-requires : tie.Need-kind-of-requires
-kind-of-requires c κs = search needs
-
-head-fields-requires : tie.Need-head-fields-requires
-head-fields-requires c κs = search needs
-
-location-fields-requires : tie.Need-location-fields-requires
-location-fields-requires c κs = search needs
-
-action-fields-requires : tie.Need-action-fields-requires
-action-fields-requires c κs = search needs
-
-edge-fields-requires : tie.Need-edge-fields-requires
-edge-fields-requires c κs = search needs
-
-bound-fields-requires : tie.Need-bound-fields-requires
-bound-fields-requires c κs = search needs
-
-one-zero-requires : tie.Need-one-zero-requires
-one-zero-requires c κs = search needs
-
-start-fields-requires : tie.Need-start-fields-requires
-start-fields-requires c κs = search needs
-
 returns : tie.Need-returns
 unfolding fields?
 returns c = c .head-fields .ensures ∙ fields-at _ _ head cc
@@ -64,19 +40,5 @@ returns-7 c = rw (no-kind (c .before .before .args .word) (omega arith) (omega a
 pub fields-spec : {M : Type 1} → statement M
 fields-spec =
     tie.close
-    (tie.spec
-    kind-of-requires
-    head-fields-requires
-    location-fields-requires
-    action-fields-requires
-    edge-fields-requires
-    bound-fields-requires
-    one-zero-requires
-    start-fields-requires
-    returns
-    returns-2
-    returns-3
-    returns-4
-    returns-5
-    returns-6
-    returns-7)
+    (tie.spec (λ c κs. search needs) (λ c κs. search needs) (λ c κs. search needs) (λ c κs. search needs) (λ c κs. search needs)
+    (λ c κs. search needs) (λ c κs. search needs) (λ c κs. search needs) returns returns-2 returns-3 returns-4 returns-5 returns-6 returns-7)

@@ -6,9 +6,6 @@ use Rattle.model.proofs.WordChecks.{limit-at, no-limit}
 use Rattle.model.proofs.seen.Seen.limit.Statement.{statement}
 use Rattle.model.proofs.seen.Seen.limit.Tie as tie
 
-kind-of-requires : tie.Need-kind-of-requires
-kind-of-requires c κs = search needs
-
 returns : tie.Need-returns
 unfolding limit?
 returns c = limit-at _ _ location cc
@@ -21,8 +18,5 @@ returns-3 : tie.Need-returns-3
 unfolding limit?
 returns-3 c = limit-at _ _ edge cc
 
-returns-4 : tie.Need-returns-4
-returns-4 c = no-limit _ _ (omega arith) (omega arith) (omega arith)
-
 pub limit-spec : {M : Type 1} → statement M
-limit-spec = tie.close (tie.spec kind-of-requires returns returns-2 returns-3 returns-4)
+limit-spec = tie.close (tie.spec (λ c κs. search needs) returns returns-2 returns-3 (λ c. no-limit _ _ (omega arith) (omega arith) (omega arith)))

@@ -2,11 +2,8 @@ use borrow.Author.Needs.{needs}
 use Rattle.model.proofs.seen.Seen.with_start.Statement.{statement}
 use Rattle.model.proofs.seen.Seen.with_start.Tie as tie
 
-start-of-requires : tie.Need-start-of-requires
-start-of-requires c κs = search needs
-
 returns : tie.Need-returns
 returns c = rw (c .start-of .ensures)
 
 pub with-start-spec : {M : Type 1} → statement M
-with-start-spec = tie.close (tie.spec start-of-requires returns)
+with-start-spec = tie.close (tie.spec (λ c κs. search needs) returns)

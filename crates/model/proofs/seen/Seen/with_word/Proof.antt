@@ -8,24 +8,6 @@ use Rattle.model.proofs.ScanLaws.{seen-step, seen-stays}
 use Rattle.model.proofs.seen.Seen.with_word.Statement.{statement}
 use Rattle.model.proofs.seen.Seen.with_word.Tie as tie
 
-kind-of-requires : tie.Need-kind-of-requires
-kind-of-requires c κs = search needs
-
-with-head-requires : tie.Need-with-head-requires
-with-head-requires c κs = search needs
-
-with-location-requires : tie.Need-with-location-requires
-with-location-requires c κs = search needs
-
-with-action-requires : tie.Need-with-action-requires
-with-action-requires c κs = search needs
-
-with-edge-requires : tie.Need-with-edge-requires
-with-edge-requires c κs = search needs
-
-with-start-requires : tie.Need-with-start-requires
-with-start-requires c κs = search needs
-
 returns : tie.Need-returns
 unfolding seenWithKind
 returns c = c .with-head .ensures ∙ seen-step _ _ _ head (sym (c .before .before .kind-of .ensures) ∙ c .before .match .keys1)
@@ -56,16 +38,5 @@ returns-6 c =
 pub with-word-spec : {M : Type 1} → statement M
 with-word-spec =
     tie.close
-    (tie.spec
-    kind-of-requires
-    with-head-requires
-    with-location-requires
-    with-action-requires
-    with-edge-requires
-    with-start-requires
-    returns
-    returns-2
-    returns-3
-    returns-4
-    returns-5
-    returns-6)
+    (tie.spec (λ c κs. search needs) (λ c κs. search needs) (λ c κs. search needs) (λ c κs. search needs) (λ c κs. search needs)
+    (λ c κs. search needs) returns returns-2 returns-3 returns-4 returns-5 returns-6)

@@ -8,9 +8,6 @@ use Rattle.table.specs.Scan.{rowsAllowAt?, faultAt}
 use Rattle.table.proofs.seen.Seen.fault.Statement.{statement}
 use Rattle.table.proofs.seen.Seen.fault.Tie as tie
 
-rows-allow-requires : tie.Need-rows-allow-requires
-rows-allow-requires c κs = search needs
-
 -- the first check
 told :
     (c : tie.After-rows-allow) → let start = c .before in
@@ -22,9 +19,6 @@ returns : tie.Need-returns
 unfolding faultAt
 returns c = rw (failed (told (c .before)) (c .if1 .taken))
 
-fields-requires : tie.Need-fields-requires
-fields-requires c κs = search needs
-
 -- past the first check
 stands :
     (c : tie.Else1) → let start = c .before .before in
@@ -34,9 +28,6 @@ stands c = passed (told (c .before)) (c .if1 .left)
 returns-2 : tie.Need-returns-2
 unfolding faultAt
 returns-2 c = rw (stands (c .before .before), failed (c .before .fields .ensures) (c .if2 .taken))
-
-limit-requires : tie.Need-limit-requires
-limit-requires c κs = search needs
 
 returns-3 : tie.Need-returns-3
 unfolding faultAt
@@ -59,11 +50,4 @@ returns-4 c =
 pub fault-spec : {M : Type 1} → statement M
 fault-spec =
     tie.close
-    (tie.spec
-    rows-allow-requires
-    returns
-    fields-requires
-    returns-2
-    limit-requires
-    returns-3
-    returns-4)
+    (tie.spec (λ c κs. search needs) returns (λ c κs. search needs) returns-2 (λ c κs. search needs) returns-3 returns-4)

@@ -10,30 +10,6 @@ use Rattle.table.proofs.WordChecks.{fields-at}
 use Rattle.table.proofs.seen.Seen.fields.Statement.{statement}
 use Rattle.table.proofs.seen.Seen.fields.Tie as tie
 
-kind-of-requires : tie.Need-kind-of-requires
-kind-of-requires c κs = search needs
-
-bound-fields-requires : tie.Need-bound-fields-requires
-bound-fields-requires c κs = search needs
-
-head-fields-requires : tie.Need-head-fields-requires
-head-fields-requires c κs = search needs
-
-node-fields-requires : tie.Need-node-fields-requires
-node-fields-requires c κs = search needs
-
-value-fields-requires : tie.Need-value-fields-requires
-value-fields-requires c κs = search needs
-
-blocked-fields-requires : tie.Need-blocked-fields-requires
-blocked-fields-requires c κs = search needs
-
-number-fields-requires : tie.Need-number-fields-requires
-number-fields-requires c κs = search needs
-
-number-fields-requires-2 : tie.Need-number-fields-requires-2
-number-fields-requires-2 c κs = search needs
-
 returns : tie.Need-returns
 unfolding fields?
 returns c = c .bound-fields .ensures ∙ fields-at _ _ _ _ nodeBound cc
@@ -74,20 +50,6 @@ returns-8 c =
 pub fields-spec : {M : Type 1} → statement M
 fields-spec =
     tie.close
-    (tie.spec
-    kind-of-requires
-    bound-fields-requires
-    head-fields-requires
-    node-fields-requires
-    value-fields-requires
-    blocked-fields-requires
-    number-fields-requires
-    number-fields-requires-2
-    returns
-    returns-2
-    returns-3
-    returns-4
-    returns-5
-    returns-6
-    returns-7
+    (tie.spec (λ c κs. search needs) (λ c κs. search needs) (λ c κs. search needs) (λ c κs. search needs) (λ c κs. search needs)
+    (λ c κs. search needs) (λ c κs. search needs) (λ c κs. search needs) returns returns-2 returns-3 returns-4 returns-5 returns-6 returns-7
     returns-8)

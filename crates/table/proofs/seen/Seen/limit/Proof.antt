@@ -3,11 +3,8 @@ use Rattle.table.proofs.WordChecks.{limit-is}
 use Rattle.table.proofs.seen.Seen.limit.Statement.{statement}
 use Rattle.table.proofs.seen.Seen.limit.Tie as tie
 
-kind-of-requires : tie.Need-kind-of-requires
-kind-of-requires c κs = search needs
-
 returns : tie.Need-returns
 returns c = rw (c .before .kind-of .ensures) (limit-is (c .before .before .args .self) _)
 
 pub limit-spec : {M : Type 1} → statement M
-limit-spec = tie.close (tie.spec kind-of-requires returns)
+limit-spec = tie.close (tie.spec (λ c κs. search needs) returns)

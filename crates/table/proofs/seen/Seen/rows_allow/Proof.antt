@@ -6,9 +6,6 @@ use Rattle.table.proofs.WordChecks.{rows-at, rows-apart}
 use Rattle.table.proofs.seen.Seen.rows_allow.Statement.{statement}
 use Rattle.table.proofs.seen.Seen.rows_allow.Tie as tie
 
-kind-of-requires : tie.Need-kind-of-requires
-kind-of-requires c κs = search needs
-
 returns : tie.Need-returns
 unfolding rowsAllowKind?
 returns c = rows-at _ _ node cc
@@ -25,9 +22,6 @@ returns-4 : tie.Need-returns-4
 unfolding rowsAllowKind?
 returns-4 c = rows-at _ _ startNode cc
 
-returns-5 : tie.Need-returns-5
-returns-5 c = rows-apart _ _ (omega arith) (omega arith) (omega arith) (omega arith)
-
 pub rows-allow-spec : {M : Type 1} → statement M
 rows-allow-spec =
-    tie.close (tie.spec kind-of-requires returns returns-2 returns-3 returns-4 returns-5)
+    tie.close (tie.spec (λ c κs. search needs) returns returns-2 returns-3 returns-4 (λ c. rows-apart _ _ (omega arith) (omega arith) (omega arith) (omega arith)))

@@ -2,11 +2,8 @@ use borrow.Author.Needs.{needs}
 use Rattle.table.proofs.seen.Seen.with_head.Statement.{statement}
 use Rattle.table.proofs.seen.Seen.with_head.Tie as tie
 
-whole-of-requires : tie.Need-whole-of-requires
-whole-of-requires c κs = search needs
-
 returns : tie.Need-returns
 returns c = rw (c .whole-of .ensures .0)
 
 pub with-head-spec : {M : Type 1} → statement M
-with-head-spec = tie.close (tie.spec whole-of-requires returns)
+with-head-spec = tie.close (tie.spec (λ c κs. search needs) returns)

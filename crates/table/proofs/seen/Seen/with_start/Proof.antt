@@ -2,11 +2,8 @@ use borrow.Author.Needs.{needs}
 use Rattle.table.proofs.seen.Seen.with_start.Statement.{statement}
 use Rattle.table.proofs.seen.Seen.with_start.Tie as tie
 
-number-of-requires : tie.Need-number-of-requires
-number-of-requires c κs = search needs
-
 returns : tie.Need-returns
 returns c = rw (c .number-of .ensures .0)
 
 pub with-start-spec : {M : Type 1} → statement M
-with-start-spec = tie.close (tie.spec number-of-requires returns)
+with-start-spec = tie.close (tie.spec (λ c κs. search needs) returns)

@@ -9,21 +9,6 @@ use Rattle.table.proofs.ScanLaws.{seen-step, seen-stays}
 use Rattle.table.proofs.seen.Seen.with_word.Statement.{statement}
 use Rattle.table.proofs.seen.Seen.with_word.Tie as tie
 
-kind-of-requires : tie.Need-kind-of-requires
-kind-of-requires c κs = search needs
-
-with-head-requires : tie.Need-with-head-requires
-with-head-requires c κs = search needs
-
-with-node-requires : tie.Need-with-node-requires
-with-node-requires c κs = search needs
-
-with-blocked-requires : tie.Need-with-blocked-requires
-with-blocked-requires c κs = search needs
-
-with-start-requires : tie.Need-with-start-requires
-with-start-requires c κs = search needs
-
 returns : tie.Need-returns
 unfolding seenWithKind
 returns c x = c .with-head .ensures ∙ seen-step _ _ _ x tableHead (sym (c .before .before .kind-of .ensures) ∙ c .before .match .keys1)
@@ -52,14 +37,5 @@ returns-5 c x =
 pub with-word-spec : {M : Type 1} → statement M
 with-word-spec =
     tie.close
-    (tie.spec
-    kind-of-requires
-    with-head-requires
-    with-node-requires
-    with-blocked-requires
-    with-start-requires
-    returns
-    returns-2
-    returns-3
-    returns-4
-    returns-5)
+    (tie.spec (λ c κs. search needs) (λ c κs. search needs) (λ c κs. search needs) (λ c κs. search needs) (λ c κs. search needs) returns returns-2
+    returns-3 returns-4 returns-5)

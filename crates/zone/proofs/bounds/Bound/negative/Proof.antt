@@ -3,12 +3,9 @@ use Rattle.zone.specs.Cells.{negative?}
 use Rattle.zone.proofs.bounds.Bound.negative.Statement.{statement}
 use Rattle.zone.proofs.bounds.Bound.negative.Tie as tie
 
-tighter-requires : tie.Need-tighter-requires
-tighter-requires c κs = search needs
-
 returns : tie.Need-returns
 unfolding negative?
 returns c = c .tighter .ensures
 
 pub negative-spec : {M : Type 1} → statement M
-negative-spec = tie.close (tie.spec tighter-requires returns)
+negative-spec = tie.close (tie.spec (λ c κs. search needs) returns)

@@ -3,11 +3,8 @@ use Rattle.zone.proofs.CellCode.{tighter-by-gap}
 use Rattle.zone.proofs.bounds.Bound.tighter.Statement.{statement}
 use Rattle.zone.proofs.bounds.Bound.tighter.Tie as tie
 
-gap-requires : tie.Need-gap-requires
-gap-requires c κs = search needs
-
 returns : tie.Need-returns
 returns c = let call = c .before .before .before .before in tighter-by-gap _ _ _ (call .gap .ok) (call .gap .ensures)
 
 pub tighter-spec : {M : Type 1} → statement M
-tighter-spec = tie.close (tie.spec gap-requires returns)
+tighter-spec = tie.close (tie.spec (λ c κs. search needs) returns)

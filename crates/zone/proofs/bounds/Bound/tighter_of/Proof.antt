@@ -4,9 +4,6 @@ use Rattle.zone.proofs.CellCode.{is-tightened, not-tightened}
 use Rattle.zone.proofs.bounds.Bound.tighter_of.Statement.{statement}
 use Rattle.zone.proofs.bounds.Bound.tighter_of.Tie as tie
 
-tighter-requires : tie.Need-tighter-requires
-tighter-requires c κs = search needs
-
 returns : tie.Need-returns
 returns c = is-tightened _ _ (sym (c .before .tighter .ensures) ∙ c .if1 .taken)
 
@@ -14,4 +11,4 @@ returns-2 : tie.Need-returns-2
 returns-2 c = not-tightened _ _ (sym (c .before .tighter .ensures) ∙ c .if1 .left)
 
 pub tighter-of-spec : {M : Type 1} → statement M
-tighter-of-spec = tie.close (tie.spec tighter-requires returns returns-2)
+tighter-of-spec = tie.close (tie.spec (λ c κs. search needs) returns returns-2)

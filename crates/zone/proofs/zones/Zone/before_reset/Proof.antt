@@ -31,27 +31,9 @@ Inv-loop mask self from out₀ p₀ out p = (p ≤ 25) × (out ≡ beforeBelow m
 abbrev μ-loop : tie.MeasureT-loop
 μ-loop mask self from out₀ p₀ out p = 25 - p
 
-sources-requires : tie.Need-sources-requires Inv-loop μ-loop
-sources-requires c κs = search needs
-
-universe-requires : tie.Need-universe-requires Inv-loop μ-loop
-universe-requires c κs = search needs
-
 loop-holds : tie.Need-loop-holds Inv-loop μ-loop
 unfolding beforeBelow
 loop-holds c = (omega arith, c .universe .ensures)
-
-mul-i : tie.Need-mul-i Inv-loop μ-loop
-mul-i c = search needs
-
-array-read-i : tie.Need-array-read-i Inv-loop μ-loop
-array-read-i c = omega arith
-
-mul-j : tie.Need-mul-j Inv-loop μ-loop
-mul-j c = search needs
-
-array-read-j : tie.Need-array-read-j Inv-loop μ-loop
-array-read-j c = omega arith
 
 clocks : (c : tie.In-loop Inv-loop μ-loop) → AreClocks (c .before .before .before .sources .result) (c .before .loop .p)
 clocks c = sources-lt _ (c .before .before .before .sources .ensures) (c .before .loop .p) (omega arith)
@@ -68,15 +50,6 @@ mul-old-2 c = let (h, k) = clocks c in search needs
 element-copy-out-old : tie.Need-element-copy-out-old Inv-loop μ-loop
 element-copy-out-old c = let (h, k) = clocks c in omega arith
 
-mul-tighter-of : tie.Need-mul-tighter-of Inv-loop μ-loop
-mul-tighter-of c = search needs
-
-element-copy-out-tighter-of : tie.Need-element-copy-out-tighter-of Inv-loop μ-loop
-element-copy-out-tighter-of c = search needs
-
-tighter-of-requires : tie.Need-tighter-of-requires Inv-loop μ-loop
-tighter-of-requires c κs = search needs
-
 mul-t17 : tie.Need-mul-t17 Inv-loop μ-loop
 mul-t17 c = let (h, k) = clocks (c .before .before .before) in search needs
 
@@ -88,12 +61,6 @@ mul-t26 c = let (h, k) = clocks (c .before .before .before) in search needs
 
 element-set-from-out : tie.Need-element-set-from-out Inv-loop μ-loop
 element-set-from-out c = let (h, k) = clocks (c .before .before .before) in omega arith
-
-add-p : tie.Need-add-p Inv-loop μ-loop
-add-p c = search needs
-
-loop-less : tie.Need-loop-less Inv-loop μ-loop
-loop-less c = search needs
 
 loop-again : tie.Need-loop-again Inv-loop μ-loop
 loop-again c =
@@ -108,28 +75,6 @@ returns c = let e : c .before .loop .p ≡ 25 = omega arith in rw e at (c .befor
 pub before-reset-spec : {M : Type 1} → statement M
 before-reset-spec =
     tie.close
-    (tie.spec
-    Inv-loop
-    μ-loop
-    sources-requires
-    universe-requires
-    loop-holds
-    mul-i
-    array-read-i
-    mul-j
-    array-read-j
-    mul-old
-    add-old
-    mul-old-2
-    element-copy-out-old
-    mul-tighter-of
-    element-copy-out-tighter-of
-    tighter-of-requires
-    mul-t17
-    add-t14
-    mul-t26
-    element-set-from-out
-    add-p
-    loop-less
-    loop-again
-    returns)
+    (tie.spec Inv-loop μ-loop (λ c κs. search needs) (λ c κs. search needs) loop-holds (λ c. search needs) (λ c. omega arith) (λ c. search needs)
+    (λ c. omega arith) mul-old add-old mul-old-2 element-copy-out-old (λ c. search needs) (λ c. search needs) (λ c κs. search needs) mul-t17 add-t14
+    mul-t26 element-set-from-out (λ c. search needs) (λ c. search needs) loop-again returns)

@@ -47,21 +47,6 @@ loop-holds c =
     let size = simp length-map at (c .good .0 .1 .1 .0 .1 .0 .1) in
     (omega arith, omega arith, kept (unfilled size) 5 (omega arith) (λ k l m. first-row (c .args .self) k m))
 
-mul-t6 : tie.Need-mul-t6 Inv-loop μ-loop
-mul-t6 c = search needs
-
-mul-t7 : tie.Need-mul-t7 Inv-loop μ-loop
-mul-t7 c = search needs
-
-element-set-from-out : tie.Need-element-set-from-out Inv-loop μ-loop
-element-set-from-out c = search needs
-
-add-i : tie.Need-add-i Inv-loop μ-loop
-add-i c = search needs
-
-loop-less : tie.Need-loop-less Inv-loop μ-loop
-loop-less c = search needs
-
 loop-again : tie.Need-loop-again Inv-loop μ-loop
 loop-again c =
     let turn = c .before .loop in
@@ -73,14 +58,5 @@ returns c = filled (c .before .loop .inv .2) (listOf-length _ 25 0) (omega arith
 pub delay-spec : {M : Type 1} → statement M
 delay-spec =
     tie.close
-    (tie.spec
-    Inv-loop
-    μ-loop
-    loop-holds
-    mul-t6
-    mul-t7
-    element-set-from-out
-    add-i
-    loop-less
-    loop-again
-    returns)
+    (tie.spec Inv-loop μ-loop loop-holds (λ c. search needs) (λ c. search needs) (λ c. search needs) (λ c. search needs) (λ c. search needs)
+    loop-again returns)

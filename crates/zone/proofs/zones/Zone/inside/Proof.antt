@@ -20,35 +20,11 @@ Inv-loop self other p₀ p =
 abbrev μ-loop : tie.MeasureT-loop
 μ-loop self other p₀ p = 25 - p
 
-loop-holds : tie.Need-loop-holds Inv-loop μ-loop
-loop-holds c = (omega arith, below-none _)
-
-mul-outer : tie.Need-mul-outer Inv-loop μ-loop
-mul-outer c = search needs
-
-element-copy-out-outer : tie.Need-element-copy-out-outer Inv-loop μ-loop
-element-copy-out-outer c = search needs
-
-mul-tighter : tie.Need-mul-tighter Inv-loop μ-loop
-mul-tighter c = search needs
-
-element-copy-out-tighter : tie.Need-element-copy-out-tighter Inv-loop μ-loop
-element-copy-out-tighter c = search needs
-
-tighter-requires : tie.Need-tighter-requires Inv-loop μ-loop
-tighter-requires c κs = search needs
-
 returns : tie.Need-returns Inv-loop μ-loop
 unfolding inside?
 returns c =
     let turn = c .before .before .before .before .before .before .loop in
     sym (one-fails 25 _ (turn .p) (omega arith) (ap not (sym (c .before .tighter .ensures) ∙ c .if2 .taken)))
-
-add-p : tie.Need-add-p Inv-loop μ-loop
-add-p c = search needs
-
-loop-less : tie.Need-loop-less Inv-loop μ-loop
-loop-less c = search needs
 
 loop-again : tie.Need-loop-again Inv-loop μ-loop
 loop-again c =
@@ -64,17 +40,5 @@ returns-2 c = sym (all-pass 25 _ (λ k h. c .before .loop .inv .1 k (omega arith
 pub inside-spec : {M : Type 1} → statement M
 inside-spec =
     tie.close
-    (tie.spec
-    Inv-loop
-    μ-loop
-    loop-holds
-    mul-outer
-    element-copy-out-outer
-    mul-tighter
-    element-copy-out-tighter
-    tighter-requires
-    returns
-    add-p
-    loop-less
-    loop-again
-    returns-2)
+    (tie.spec Inv-loop μ-loop (λ c. (omega arith, below-none _)) (λ c. search needs) (λ c. search needs) (λ c. search needs) (λ c. search needs)
+    (λ c κs. search needs) returns (λ c. search needs) (λ c. search needs) loop-again returns-2)

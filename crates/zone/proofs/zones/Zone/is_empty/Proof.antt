@@ -23,32 +23,11 @@ own :
     negative? (cell (c .before .before .before .before .args .t1) (turn .i) (turn .i)) ≡ c .negative .result
 own c = ap negative? (on-diagonal (c .before .before .before .before .args .t1) _) ∙ sym (c .negative .ensures)
 
-loop-holds : tie.Need-loop-holds Inv-loop μ-loop
-loop-holds c = (omega arith, below-none _)
-
-mul-own : tie.Need-mul-own Inv-loop μ-loop
-mul-own c = search needs
-
-mul-own-2 : tie.Need-mul-own-2 Inv-loop μ-loop
-mul-own-2 c = search needs
-
-element-copy-out-own : tie.Need-element-copy-out-own Inv-loop μ-loop
-element-copy-out-own c = search needs
-
-negative-requires : tie.Need-negative-requires Inv-loop μ-loop
-negative-requires c κs = search needs
-
 returns : tie.Need-returns Inv-loop μ-loop
 unfolding empty?
 returns c =
     let turn = c .before .before .before .before .loop in
     sym (ap not (one-fails 5 _ (turn .i) (omega arith) (ap not (own (c .before) ∙ c .if1 .taken))))
-
-add-i : tie.Need-add-i Inv-loop μ-loop
-add-i c = search needs
-
-loop-less : tie.Need-loop-less Inv-loop μ-loop
-loop-less c = search needs
 
 loop-again : tie.Need-loop-again Inv-loop μ-loop
 loop-again c =
@@ -62,16 +41,5 @@ returns-2 c = sym (ap not (all-pass 5 _ (λ k h. c .before .loop .inv .1 k (omeg
 pub is-empty-spec : {M : Type 1} → statement M
 is-empty-spec =
     tie.close
-    (tie.spec
-    Inv-loop
-    μ-loop
-    loop-holds
-    mul-own
-    mul-own-2
-    element-copy-out-own
-    negative-requires
-    returns
-    add-i
-    loop-less
-    loop-again
-    returns-2)
+    (tie.spec Inv-loop μ-loop (λ c. (omega arith, below-none _)) (λ c. search needs) (λ c. search needs) (λ c. search needs) (λ c κs. search needs)
+    returns (λ c. search needs) (λ c. search needs) loop-again returns-2)

@@ -28,33 +28,6 @@ abbrev μ-loop : tie.MeasureT-loop
 loop-holds : tie.Need-loop-holds Inv-loop μ-loop
 loop-holds c = (omega arith, unfilled (simp length-map at (c .good .0 .1 .1 .0 .1 .0 .1)))
 
-mul-b : tie.Need-mul-b Inv-loop μ-loop
-mul-b c = search needs
-
-element-copy-out-b : tie.Need-element-copy-out-b Inv-loop μ-loop
-element-copy-out-b c = search needs
-
-mul-tighter : tie.Need-mul-tighter Inv-loop μ-loop
-mul-tighter c = search needs
-
-element-copy-out-tighter : tie.Need-element-copy-out-tighter Inv-loop μ-loop
-element-copy-out-tighter c = search needs
-
-tighter-requires : tie.Need-tighter-requires Inv-loop μ-loop
-tighter-requires c κs = search needs
-
-mul-b-2 : tie.Need-mul-b-2 Inv-loop μ-loop
-mul-b-2 c = search needs
-
-element-set-from-b : tie.Need-element-set-from-b Inv-loop μ-loop
-element-set-from-b c = search needs
-
-add-p : tie.Need-add-p Inv-loop μ-loop
-add-p c = search needs
-
-loop-less : tie.Need-loop-less Inv-loop μ-loop
-loop-less c = search needs
-
 loop-again : tie.Need-loop-again Inv-loop μ-loop
 loop-again c =
     let turn = c .before .before .before .before .before .loop in
@@ -76,18 +49,5 @@ returns c = filled (c .before .loop .inv .1) (listOf-length _ 25 0) (c .loop-tes
 pub meet-spec : {M : Type 1} → statement M
 meet-spec =
     tie.close
-    (tie.spec
-    Inv-loop
-    μ-loop
-    loop-holds
-    mul-b
-    element-copy-out-b
-    mul-tighter
-    element-copy-out-tighter
-    tighter-requires
-    mul-b-2
-    element-set-from-b
-    add-p
-    loop-less
-    loop-again
-    returns)
+    (tie.spec Inv-loop μ-loop loop-holds (λ c. search needs) (λ c. search needs) (λ c. search needs) (λ c. search needs) (λ c κs. search needs)
+    (λ c. search needs) (λ c. search needs) (λ c. search needs) (λ c. search needs) loop-again returns)

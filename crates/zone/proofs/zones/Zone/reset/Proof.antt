@@ -42,17 +42,8 @@ Inv-loop mask self from out₀ i₀ out i = (i ≤ 5) × Filled unbounded 25 (re
 abbrev μ-loop : tie.MeasureT-loop
 μ-loop mask self from out₀ i₀ out i = 5 - i
 
-sources-requires : tie.Need-sources-requires Inv-loop2 μ-loop2 Inv-loop μ-loop
-sources-requires c κs = search needs
-
 loop-holds : tie.Need-loop-holds Inv-loop2 μ-loop2 Inv-loop μ-loop
 loop-holds c = (omega arith, unfilled (simp length-map at (c .before .good .0 .1 .1 .0 .1 .0 .1)))
-
-mul-row : tie.Need-mul-row Inv-loop2 μ-loop2 Inv-loop μ-loop
-mul-row c = search needs
-
-array-read-row : tie.Need-array-read-row Inv-loop2 μ-loop2 Inv-loop μ-loop
-array-read-row c = search needs
 
 mul-row-2 : tie.Need-mul-row-2 Inv-loop2 μ-loop2 Inv-loop μ-loop
 mul-row-2 c =
@@ -62,12 +53,6 @@ mul-row-2 c =
 
 loop2-holds : tie.Need-loop2-holds Inv-loop2 μ-loop2 Inv-loop μ-loop
 loop2-holds c = (omega arith, same-place (c .before .loop .inv .1) (omega arith))
-
-mul-out : tie.Need-mul-out Inv-loop2 μ-loop2 Inv-loop μ-loop
-mul-out c = search needs
-
-array-read-out : tie.Need-array-read-out Inv-loop2 μ-loop2 Inv-loop μ-loop
-array-read-out c = search needs
 
 within :
     (c : tie.In-loop2 Inv-loop2 μ-loop2 Inv-loop μ-loop) →
@@ -85,24 +70,6 @@ mul-out-2 c = let h = within c in search needs
 element-copy-out-out : tie.Need-element-copy-out-out Inv-loop2 μ-loop2 Inv-loop μ-loop
 element-copy-out-out c = within c
 
-mul-t26 : tie.Need-mul-t26 Inv-loop2 μ-loop2 Inv-loop μ-loop
-mul-t26 c = search needs
-
-add-t27 : tie.Need-add-t27 Inv-loop2 μ-loop2 Inv-loop μ-loop
-add-t27 c = search needs
-
-mul-t28 : tie.Need-mul-t28 Inv-loop2 μ-loop2 Inv-loop μ-loop
-mul-t28 c = search needs
-
-element-set-from-out : tie.Need-element-set-from-out Inv-loop2 μ-loop2 Inv-loop μ-loop
-element-set-from-out c = search needs
-
-add-j : tie.Need-add-j Inv-loop2 μ-loop2 Inv-loop μ-loop
-add-j c = search needs
-
-loop2-less : tie.Need-loop2-less Inv-loop2 μ-loop2 Inv-loop μ-loop
-loop2-less c = search needs
-
 loop2-again : tie.Need-loop2-again Inv-loop2 μ-loop2 Inv-loop μ-loop
 loop2-again c =
     let turn = c .before .before in
@@ -116,12 +83,6 @@ loop2-again c =
           (omega arith),
     )
 
-add-i : tie.Need-add-i Inv-loop2 μ-loop2 Inv-loop μ-loop
-add-i c = search needs
-
-loop-less : tie.Need-loop-less Inv-loop2 μ-loop2 Inv-loop μ-loop
-loop-less c = search needs
-
 loop-again : tie.Need-loop-again Inv-loop2 μ-loop2 Inv-loop μ-loop
 loop-again c = (omega arith, same-place (c .before .loop2 .inv .1) (omega arith))
 
@@ -131,30 +92,6 @@ returns c = filled (c .before .loop .inv .1) (listOf-length _ 25 0) (omega arith
 pub reset-spec : {M : Type 1} → statement M
 reset-spec =
     tie.close
-    (tie.spec
-    Inv-loop2
-    μ-loop2
-    Inv-loop
-    μ-loop
-    sources-requires
-    loop-holds
-    mul-row
-    array-read-row
-    mul-row-2
-    loop2-holds
-    mul-out
-    array-read-out
-    add-out
-    mul-out-2
-    element-copy-out-out
-    mul-t26
-    add-t27
-    mul-t28
-    element-set-from-out
-    add-j
-    loop2-less
-    loop2-again
-    add-i
-    loop-less
-    loop-again
-    returns)
+    (tie.spec Inv-loop2 μ-loop2 Inv-loop μ-loop (λ c κs. search needs) loop-holds (λ c. search needs) (λ c. search needs) mul-row-2 loop2-holds
+    (λ c. search needs) (λ c. search needs) add-out mul-out-2 element-copy-out-out (λ c. search needs) (λ c. search needs) (λ c. search needs)
+    (λ c. search needs) (λ c. search needs) (λ c. search needs) loop2-again (λ c. search needs) (λ c. search needs) loop-again returns)

@@ -66,34 +66,8 @@ loop-holds c = (omega arith, simp length-map at (c .good .0 .1 .1 .0 .1 .0 .1), 
 loop2-holds : tie.Need-loop2-holds Inv-loop3 μ-loop3 Inv-loop2 μ-loop2 Inv-loop μ-loop
 loop2-holds c = (omega arith, unfilled (c .before .loop .inv .1))
 
-mul-into : tie.Need-mul-into Inv-loop3 μ-loop3 Inv-loop2 μ-loop2 Inv-loop μ-loop
-mul-into c = search needs
-
-add-into : tie.Need-add-into Inv-loop3 μ-loop3 Inv-loop2 μ-loop2 Inv-loop μ-loop
-add-into c = search needs
-
-mul-into-2 : tie.Need-mul-into-2 Inv-loop3 μ-loop3 Inv-loop2 μ-loop2 Inv-loop μ-loop
-mul-into-2 c = search needs
-
-element-copy-out-into :
-    tie.Need-element-copy-out-into Inv-loop3 μ-loop3 Inv-loop2 μ-loop2 Inv-loop μ-loop
-element-copy-out-into c = search needs
-
 loop3-holds : tie.Need-loop3-holds Inv-loop3 μ-loop3 Inv-loop2 μ-loop2 Inv-loop μ-loop
 loop3-holds c = (omega arith, same-place (c .before .before .before .loop2 .inv .1) (omega arith))
-
-mul-sum : tie.Need-mul-sum Inv-loop3 μ-loop3 Inv-loop2 μ-loop2 Inv-loop μ-loop
-mul-sum c = search needs
-
-add-sum : tie.Need-add-sum Inv-loop3 μ-loop3 Inv-loop2 μ-loop2 Inv-loop μ-loop
-add-sum c = search needs
-
-mul-sum-2 : tie.Need-mul-sum-2 Inv-loop3 μ-loop3 Inv-loop2 μ-loop2 Inv-loop μ-loop
-mul-sum-2 c = search needs
-
-element-copy-out-sum :
-    tie.Need-element-copy-out-sum Inv-loop3 μ-loop3 Inv-loop2 μ-loop2 Inv-loop μ-loop
-element-copy-out-sum c = search needs
 
 sum-requires : tie.Need-sum-requires Inv-loop3 μ-loop3 Inv-loop2 μ-loop2 Inv-loop μ-loop
 sum-requires c κs =
@@ -102,41 +76,6 @@ sum-requires c κs =
     let small = small-passes (pass .loop .m) (start .args .self) (omega arith) (start .pre) in
     let old : Small (2 ^ 30) (pass .loop .out) = subst (Small (2 ^ 30)) (sym (pass .loop .inv .2)) small in
     (old .at _, old .at _)
-
-mul-tighter : tie.Need-mul-tighter Inv-loop3 μ-loop3 Inv-loop2 μ-loop2 Inv-loop μ-loop
-mul-tighter c = search needs
-
-add-tighter : tie.Need-add-tighter Inv-loop3 μ-loop3 Inv-loop2 μ-loop2 Inv-loop μ-loop
-add-tighter c = search needs
-
-mul-tighter-2 : tie.Need-mul-tighter-2 Inv-loop3 μ-loop3 Inv-loop2 μ-loop2 Inv-loop μ-loop
-mul-tighter-2 c = search needs
-
-element-copy-out-tighter :
-    tie.Need-element-copy-out-tighter Inv-loop3 μ-loop3 Inv-loop2 μ-loop2 Inv-loop μ-loop
-element-copy-out-tighter c = search needs
-
-tighter-requires : tie.Need-tighter-requires Inv-loop3 μ-loop3 Inv-loop2 μ-loop2 Inv-loop μ-loop
-tighter-requires c κs = search needs
-
-mul-through : tie.Need-mul-through Inv-loop3 μ-loop3 Inv-loop2 μ-loop2 Inv-loop μ-loop
-mul-through c = search needs
-
-add-through : tie.Need-add-through Inv-loop3 μ-loop3 Inv-loop2 μ-loop2 Inv-loop μ-loop
-add-through c = search needs
-
-mul-through-2 : tie.Need-mul-through-2 Inv-loop3 μ-loop3 Inv-loop2 μ-loop2 Inv-loop μ-loop
-mul-through-2 c = search needs
-
-element-set-from-through :
-    tie.Need-element-set-from-through Inv-loop3 μ-loop3 Inv-loop2 μ-loop2 Inv-loop μ-loop
-element-set-from-through c = search needs
-
-add-j : tie.Need-add-j Inv-loop3 μ-loop3 Inv-loop2 μ-loop2 Inv-loop μ-loop
-add-j c = search needs
-
-loop3-less : tie.Need-loop3-less Inv-loop3 μ-loop3 Inv-loop2 μ-loop2 Inv-loop μ-loop
-loop3-less c = search needs
 
 loop3-again : tie.Need-loop3-again Inv-loop3 μ-loop3 Inv-loop2 μ-loop2 Inv-loop μ-loop
 loop3-again c =
@@ -157,12 +96,6 @@ loop3-again c =
           (c .if2 .came),
     )
 
-add-i : tie.Need-add-i Inv-loop3 μ-loop3 Inv-loop2 μ-loop2 Inv-loop μ-loop
-add-i c = search needs
-
-loop2-less : tie.Need-loop2-less Inv-loop3 μ-loop3 Inv-loop2 μ-loop2 Inv-loop μ-loop
-loop2-less c = search needs
-
 loop2-again : tie.Need-loop2-again Inv-loop3 μ-loop3 Inv-loop2 μ-loop2 Inv-loop μ-loop
 loop2-again c =
     let row = c .before .before .before in
@@ -177,12 +110,6 @@ loop2-again c =
           (c .if1 .came),
     )
 
-add-m : tie.Need-add-m Inv-loop3 μ-loop3 Inv-loop2 μ-loop2 Inv-loop μ-loop
-add-m c = search needs
-
-loop-less : tie.Need-loop-less Inv-loop3 μ-loop3 Inv-loop2 μ-loop2 Inv-loop μ-loop
-loop-less c = search needs
-
 loop-again : tie.Need-loop-again Inv-loop3 μ-loop3 Inv-loop2 μ-loop2 Inv-loop μ-loop
 unfolding passedBelow
 loop-again c =
@@ -196,41 +123,8 @@ returns c = let e : c .before .loop .m ≡ 5 = omega arith in rw e at (c .before
 pub tighten-spec : {M : Type 1} → statement M
 tighten-spec =
     tie.close
-    (tie.spec
-    Inv-loop3
-    μ-loop3
-    Inv-loop2
-    μ-loop2
-    Inv-loop
-    μ-loop
-    loop-holds
-    loop2-holds
-    mul-into
-    add-into
-    mul-into-2
-    element-copy-out-into
-    loop3-holds
-    mul-sum
-    add-sum
-    mul-sum-2
-    element-copy-out-sum
-    sum-requires
-    mul-tighter
-    add-tighter
-    mul-tighter-2
-    element-copy-out-tighter
-    tighter-requires
-    mul-through
-    add-through
-    mul-through-2
-    element-set-from-through
-    add-j
-    loop3-less
-    loop3-again
-    add-i
-    loop2-less
-    loop2-again
-    add-m
-    loop-less
-    loop-again
-    returns)
+    (tie.spec Inv-loop3 μ-loop3 Inv-loop2 μ-loop2 Inv-loop μ-loop loop-holds loop2-holds (λ c. search needs) (λ c. search needs) (λ c. search needs)
+    (λ c. search needs) loop3-holds (λ c. search needs) (λ c. search needs) (λ c. search needs) (λ c. search needs) sum-requires (λ c. search needs)
+    (λ c. search needs) (λ c. search needs) (λ c. search needs) (λ c κs. search needs) (λ c. search needs) (λ c. search needs) (λ c. search needs)
+    (λ c. search needs) (λ c. search needs) (λ c. search needs) loop3-again (λ c. search needs) (λ c. search needs) loop2-again (λ c. search needs)
+    (λ c. search needs) loop-again returns)

@@ -27,21 +27,6 @@ blank :
     getD (replicate 25 unbounded) p unbounded ≡ getD (universe .cells) p unbounded
 blank p h e = getD-replicate 25 p unbounded unbounded h ∙ rw (listOf-at unbounded _ 25 p h, e)
 
-loop-holds : tie.Need-loop-holds Inv-loop μ-loop
-loop-holds c = (omega arith, unfilled refl)
-
-mul-cells : tie.Need-mul-cells Inv-loop μ-loop
-mul-cells c = search needs
-
-array-set-from-cells : tie.Need-array-set-from-cells Inv-loop μ-loop
-array-set-from-cells c = search needs
-
-add-p : tie.Need-add-p Inv-loop μ-loop
-add-p c = search needs
-
-loop-less : tie.Need-loop-less Inv-loop μ-loop
-loop-less c = search needs
-
 loop-again : tie.Need-loop-again Inv-loop μ-loop
 loop-again c =
     let turn = c .before .before .loop in (
@@ -58,13 +43,5 @@ returns c = filled (c .before .loop .inv .1) (listOf-length _ 25 0) (c .loop-tes
 pub universe-spec : {M : Type 1} → statement M
 universe-spec =
     tie.close
-    (tie.spec
-    Inv-loop
-    μ-loop
-    loop-holds
-    mul-cells
-    array-set-from-cells
-    add-p
-    loop-less
-    loop-again
-    returns)
+    (tie.spec Inv-loop μ-loop (λ c. (omega arith, unfilled refl)) (λ c. search needs) (λ c. search needs) (λ c. search needs) (λ c. search needs)
+    loop-again returns)
