@@ -4,7 +4,7 @@
 set -euo pipefail
 cd "$(dirname "$0")/.."
 mkdir -p target/log
-unset JUDGE_PROGRAM # the proved program, and no other
+unset JUDGE_PROGRAM MISS_CHANCE_LIB_DIR # the proved program and library, and no other
 build() { # quiet unless it fails
     "$@" >target/log/outside.out 2>&1 || { cat target/log/outside.out; exit 1; }
 }
@@ -13,10 +13,13 @@ build rt check judge_cli
 
 echo '== the Rust package'
 cargo test --release --quiet --locked --offline --manifest-path bindings/rust/Cargo.toml
-echo '== C'
-gcc -std=c99 -Wall -Wextra -pedantic -Werror -Ibindings/c bindings/c/example.c target/staticlib/libmiss_chance.a -o target/c_example
-said=$(target/c_example)
-[[ $said = $'ACCEPTED 1 10 3\nREFUSED 19 4' ]] || { echo "the C example said: $said"; exit 1; }
+tests/rust_package.sh
+echo '== C and C++'
+for compiler in 'gcc -std=c99' 'g++ -std=c++11'; do # g++ takes a .c file as C++
+    $compiler -Wall -Wextra -pedantic -Werror -Ibindings/c bindings/c/example.c target/staticlib/libmiss_chance.a -o target/c_example
+    said=$(target/c_example)
+    [[ $said = $'ACCEPTED 1 10 3\nREFUSED 19 4' ]] || { echo "the C example, by $compiler, said: $said"; exit 1; }
+done
 echo '== ./judge'
 tests/judge_script.sh
 echo '== the reading, and the judge compared with it'

@@ -1,7 +1,7 @@
 /*
  * The miss-chance judge, for C and C++: four calls over lists of 32-bit words, as document 01 ("The miss-chance judge: timelines, tables
- * and the bound they certify") defines them. Link with target/staticlib/libmiss_chance.a, which `rt staticlib miss_chance` proves and writes at the
- * repository's root (x86-64, System V calling convention).
+ * and the bound they certify") defines them. Link with target/staticlib/libmiss_chance.a, which `rt staticlib miss_chance` proves and writes
+ * at the repository's root (x86-64, System V calling convention).
  *
  * THE ANSWER. Each call writes its answer to the first four words of `answer` and returns true:
  *
@@ -40,8 +40,8 @@ extern "C" {
 #define MISS_CHANCE_ANSWER_WORDS 4
 
 /*
- * Word 0 of an answer: document 01's numbers. The names are those of the Rust package's cases; there the cases of a model's own answer,
- * BadKind, BadField and OverLimit, are the numbers 1 to 3, here BAD_MODEL_KIND, BAD_MODEL_FIELD and OVER_MODEL_LIMIT.
+ * Word 0 of an answer: document 01's numbers, each with one name, the one that it has in the Rust package too. Later versions may add some;
+ * whatever is not 0 is a refusal.
  */
 enum miss_chance_number {
     MISS_CHANCE_ACCEPTED = 0,
@@ -55,10 +55,10 @@ enum miss_chance_number {
     MISS_CHANCE_NO_START = 6,         /* no start state at any scale; place: the start word */
 
     /* The table's words; the place lies in the table. */
-    MISS_CHANCE_BAD_KIND = 11,   /* missing word or wrong kind, rows and end included */
-    MISS_CHANCE_BAD_FIELD = 12,  /* field outside its range, spare bit set, or a node's location does not exist */
-    MISS_CHANCE_OVER_LIMIT = 13, /* a 65th node */
-    MISS_CHANCE_NO_NODE = 14,    /* node number not there; place: the first such B or C word */
+    MISS_CHANCE_BAD_TABLE_KIND = 11,   /* missing word or wrong kind, rows and end included */
+    MISS_CHANCE_BAD_TABLE_FIELD = 12,  /* field outside its range, spare bit set, or a node's location does not exist */
+    MISS_CHANCE_OVER_TABLE_LIMIT = 13, /* a 65th node */
+    MISS_CHANCE_NO_NODE = 14,          /* node number not there; place: the first such B or C word */
 
     /* What the table claims; the place lies in the table. */
     MISS_CHANCE_BAD_TARGET_VALUE = 15, /* a target's value is not V; place: its 9 word */
@@ -70,10 +70,9 @@ enum miss_chance_number {
     MISS_CHANCE_START_NOT_INSIDE = 21, /* the start valuations are not inside the start node's zone; place: the C word */
 
     /* The questions about zones. */
-    MISS_CHANCE_BAD_CLOCKS = 31, /* C outside 1 to 4; place: 0 */
-    MISS_CHANCE_BAD_WORD = 32,   /* miss_chance_zone_empty: a word that is no good bound */
-    MISS_CHANCE_BAD_FIRST = 32,  /* miss_chance_zone_inside: the same in the first list, where the place lies */
-    MISS_CHANCE_BAD_SECOND = 33  /* miss_chance_zone_inside: the same in the second list, where the place lies */
+    MISS_CHANCE_BAD_CLOCKS = 31,      /* C outside 1 to 4; place: 0 */
+    MISS_CHANCE_BAD_BOUND = 32,       /* a word of the zone, of the first one where there are two, is no good bound; place: in its list */
+    MISS_CHANCE_BAD_SECOND_BOUND = 33 /* a word of the second zone is no good bound; place: in its list */
 };
 
 /*

@@ -50,45 +50,31 @@ pub struct UnderTest {
 
 impl Side for UnderTest {
     fn judge(&self, model: &[u32], table: &[u32]) -> Result<Certificate, Refusal> {
-        let verdict = miss_chance::judge(model, table);
-        match verdict {
-            miss_chance::Verdict::Accepted(accepted) => Ok(Certificate {
-                b: accepted.b,
-                whole: accepted.whole,
-                nodes: accepted.nodes,
-            }),
-            _ => Err(refused(verdict.refusal())),
-        }
+        let accepted = miss_chance::judge(model, table).result().map_err(refused)?;
+        Ok(Certificate {
+            b: accepted.b,
+            whole: accepted.whole,
+            nodes: accepted.nodes,
+        })
     }
 
     fn read_model(&self, words: &[u32]) -> Result<Counts, Refusal> {
-        let answer = miss_chance::read_model(words);
-        match answer {
-            miss_chance::ModelAnswer::Accepted(accepted) => Ok(Counts {
-                locations: accepted.locations,
-                actions: accepted.actions,
-                edges: accepted.edges,
-            }),
-            _ => Err(refused(answer.refusal())),
-        }
+        let accepted = miss_chance::read_model(words).result().map_err(refused)?;
+        Ok(Counts {
+            locations: accepted.locations,
+            actions: accepted.actions,
+            edges: accepted.edges,
+        })
     }
 
     fn zone_empty(&self, clocks: u32, words: &[u32]) -> Result<bool, Refusal> {
         let answer = miss_chance::zone_empty(clocks, words);
-        match answer {
-            miss_chance::Emptiness::Empty => Ok(true),
-            miss_chance::Emptiness::NotEmpty => Ok(false),
-            _ => Err(refused(answer.refusal())),
-        }
+        answer.result().map_err(refused)
     }
 
     fn zone_inside(&self, clocks: u32, first: &[u32], second: &[u32]) -> Result<bool, Refusal> {
         let answer = miss_chance::zone_inside(clocks, first, second);
-        match answer {
-            miss_chance::Inclusion::Inside => Ok(true),
-            miss_chance::Inclusion::NotInside => Ok(false),
-            _ => Err(refused(answer.refusal())),
-        }
+        answer.result().map_err(refused)
     }
 
     fn program(&self, bytes: &[u8]) -> String {
@@ -128,11 +114,10 @@ fn write_in_parts(mut input: ChildStdin, bytes: &[u8]) -> std::io::Result<()> {
     }
 }
 
-/// An answer that is no acceptance is a refusal.
-fn refused(refusal: Option<miss_chance::Refusal>) -> Refusal {
-    let refusal = refusal.expect("neither accepted nor refused");
+/// A refusal in document 01's numbers.
+fn refused(refusal: miss_chance::Refusal) -> Refusal {
     Refusal {
-        number: refusal.number,
+        number: refusal.reason.number(),
         place: refusal.place,
     }
 }

@@ -1,36 +1,49 @@
 //! The miss-chance judge: four calls over lists of 32-bit words, as document 01 ("The miss-chance
 //! judge: timelines, tables and the bound they certify") defines them. The work is done by a
-//! verified library, which `rt staticlib miss_chance` proves and writes at the repository's root; this
-//! crate lends it slices and turns its answers into enums.
+//! verified library; this crate lends it slices and turns its answers into enums.
 //!
 //! Document 01's worked timeline and its table:
 //!
 //! ```
-//! use miss_chance::{judge, Certificate, Refusal, Verdict};
+//! use std::error::Error;
+//! use miss_chance::{judge, Reason, Refusal, Verdict};
 //!
-//! let model = [
-//!     0x1110000A, 0x20000000, 0x51001003, 0x30000000, 0x50100FFE, 0x40010009, 0x40020001,
-//!     0x20000000, 0x20000001, 0x60000000, 0x51001000,
-//! ];
-//! let mut table = [
-//!     0x7000000A, 0x80000000, 0x51001000, 0x90000001, 0xB0000001, 0xB0000002, 0x81000000,
-//!     0x90000000, 0x82000000, 0x9000000A, 0xC0000000,
-//! ];
-//! let verdict = judge(&model, &table);
-//! assert_eq!(verdict, Verdict::Accepted(Certificate { b: 1, whole: 10, nodes: 3 }));
-//! assert_eq!(verdict.to_string(), "ACCEPTED 1 10 3");
+//! fn main() -> Result<(), Box<dyn Error>> {
+//!     let model = [
+//!         0x1110000A, 0x20000000, 0x51001003, 0x30000000, 0x50100FFE, 0x40010009, 0x40020001,
+//!         0x20000000, 0x20000001, 0x60000000, 0x51001000,
+//!     ];
+//!     let mut table = [
+//!         0x7000000A, 0x80000000, 0x51001000, 0x90000001, 0xB0000001, 0xB0000002, 0x81000000,
+//!         0x90000000, 0x82000000, 0x9000000A, 0xC0000000,
+//!     ];
+//!     let certificate = judge(&model, &table).result()?; // a refusal is an error
+//!     assert_eq!((certificate.b, certificate.whole), (1, 10));
 //!
-//! table[3] = 0x90000000; // node 0 now claims 0
-//! let verdict = judge(&model, &table);
-//! assert_eq!(verdict, Verdict::SumTooLarge(4));
-//! assert_eq!(verdict.refusal(), Some(Refusal { number: 19, place: 4 }));
-//! assert_eq!(verdict.to_string(), "REFUSED 19 4");
+//!     table[3] = 0x90000000; // node 0 now claims 0
+//!     let verdict = judge(&model, &table);
+//!     assert_eq!(verdict.to_string(), "REFUSED 19 4"); // as the program prints it
+//!     match verdict {
+//!         Verdict::Accepted(_) => unreachable!(),
+//!         Verdict::Refused(Refusal { reason, place }) => {
+//!             assert_eq!((reason, place), (Reason::SumTooLarge, 4));
+//!             assert_eq!(reason.number(), 19);
+//!         }
+//!     }
+//!     Ok(())
+//! }
 //! ```
 //!
 //! Every input has an answer. A word is a number, so words from a file, highest byte first, are put
 //! together first (`u32::from_be_bytes`). The calls keep no state, allocate nothing and may run in
 //! several threads at once. A thread with 256 KiB of stack is enough: [`judge`] takes about
 //! 114 KiB, [`read_model`] 43 KiB, the two questions 2 KiB, whatever the input.
+//!
+//! # The library
+//!
+//! `rt staticlib miss_chance`, at the root of the judge's repository, proves it and writes
+//! `target/staticlib/libmiss_chance.a`, where this package looks for it. If it stands elsewhere,
+//! set `MISS_CHANCE_LIB_DIR` to its folder, as an absolute path.
 //!
 //! # Panics
 //!
@@ -45,11 +58,14 @@ mod model;
 mod numbers_test;
 #[allow(unsafe_code)]
 mod raw;
+mod reason;
 mod refusal;
 mod verdict;
+mod words;
 mod zone;
 
 pub use model::{Counts, ModelAnswer};
+pub use reason::Reason;
 pub use refusal::Refusal;
 pub use verdict::{Certificate, Verdict};
 pub use zone::{Emptiness, Inclusion};

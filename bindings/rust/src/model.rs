@@ -1,7 +1,9 @@
 //! The answer of reading a model.
 
-use crate::raw::Words;
-use crate::refusal::{broken, number, Refusal};
+use std::fmt;
+
+use crate::words::{value, Words};
+use crate::Refusal;
 
 /// What an accepted model holds.
 #[derive(Clone, Copy, Debug, PartialEq, Eq)]
@@ -14,57 +16,54 @@ pub struct Counts {
     pub edges: usize,
 }
 
-/// The answer of [`read_model`](crate::read_model). A refusal has its place in the model.
+/// The answer of [`read_model`](crate::read_model). It prints as
+/// `ACCEPTED locations actions edges` or `REFUSED number place`.
 #[derive(Clone, Copy, Debug, PartialEq, Eq)]
+#[must_use = "the model may be refused"]
 pub enum ModelAnswer {
     /// The model is accepted.
     Accepted(Counts),
-    /// 1: missing word, or kind not allowed here.
-    BadKind(usize),
-    /// 2: field outside its range, spare bit set, or the start's location does not exist.
-    BadField(usize),
-    /// 3: location, action or edge over its limit.
-    OverLimit(usize),
-    /// 4: weights do not add to D. The place is the word after the last edge.
-    BadWeights(usize),
-    /// 5: an edge's location does not exist. The place is the first such edge.
-    NoLocation(usize),
-    /// 6: no start state at any scale. The place is the start word.
-    NoStart(usize),
+    /// The model is refused, with 1 to 6.
+    Refused(Refusal),
 }
 
 impl ModelAnswer {
-    /// Document 01's number and place, if this is a refusal.
-    pub fn refusal(&self) -> Option<Refusal> {
-        let (number, place) = match *self {
-            ModelAnswer::Accepted(_) => return None,
-            ModelAnswer::BadKind(place) => (1, place),
-            ModelAnswer::BadField(place) => (2, place),
-            ModelAnswer::OverLimit(place) => (3, place),
-            ModelAnswer::BadWeights(place) => (4, place),
-            ModelAnswer::NoLocation(place) => (5, place),
-            ModelAnswer::NoStart(place) => (6, place),
-        };
-        Some(Refusal { number, place })
+    /// The same as a `Result`.
+    pub fn result(self) -> Result<Counts, Refusal> {
+        match self {
+            ModelAnswer::Accepted(counts) => Ok(counts),
+            ModelAnswer::Refused(refusal) => Err(refusal),
+        }
+    }
+
+    /// The refusal, if this is one.
+    #[must_use]
+    pub fn refusal(self) -> Option<Refusal> {
+        self.result().err()
     }
 
     pub(crate) fn from_words(words: Words) -> ModelAnswer {
-        let case = match words[0] {
-            0 => {
-                return ModelAnswer::Accepted(Counts {
-                    locations: number(words, 1),
-                    actions: number(words, 2),
-                    edges: number(words, 3),
-                })
-            }
-            1 => ModelAnswer::BadKind,
-            2 => ModelAnswer::BadField,
-            3 => ModelAnswer::OverLimit,
-            4 => ModelAnswer::BadWeights,
-            5 => ModelAnswer::NoLocation,
-            6 => ModelAnswer::NoStart,
-            _ => broken("read_model", words),
-        };
-        case(number(words, 1))
+        const CALL: &str = "read_model";
+        match words[0] {
+            0 => ModelAnswer::Accepted(Counts {
+                locations: value(CALL, words, 1),
+                actions: value(CALL, words, 2),
+                edges: value(CALL, words, 3),
+            }),
+            _ => ModelAnswer::Refused(Refusal::from_words(CALL, 1..=6, words)),
+        }
+    }
+}
+
+impl fmt::Display for ModelAnswer {
+    fn fmt(&self, out: &mut fmt::Formatter<'_>) -> fmt::Result {
+        match self {
+            ModelAnswer::Accepted(counts) => write!(
+                out,
+                "ACCEPTED {} {} {}",
+                counts.locations, counts.actions, counts.edges
+            ),
+            ModelAnswer::Refused(refusal) => refusal.write_line(out),
+        }
     }
 }

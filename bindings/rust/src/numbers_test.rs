@@ -1,20 +1,20 @@
-//! Which numbers each answer takes, and that others panic.
+//! Which numbers each answer takes, that others panic, and that a number has one name everywhere.
 
 use std::fmt::Debug;
+use std::fs::read_to_string;
 use std::panic::catch_unwind;
 
-use crate::raw::Words;
-use crate::{Emptiness, Inclusion, ModelAnswer, Refusal, Verdict};
+use crate::words::Words;
+use crate::{Emptiness, Inclusion, ModelAnswer, Reason, Refusal, Verdict};
 
 /// Of the numbers 1 to 99 those listed give a refusal with the same number, the others panic.
-fn check<A: Debug>(read: fn(Words) -> A, refusal: fn(&A) -> Option<Refusal>, listed: &[u32]) {
+fn check<A: Debug>(read: fn(Words) -> A, refusal: fn(A) -> Option<Refusal>, listed: &[u32]) {
     for number in 1..100 {
-        let place = if number == 31 { 0 } else { 7 };
-        let words = [number.into(), place as u64, 0, 0];
-        match catch_unwind(|| read(words)) {
+        match catch_unwind(|| read([number.into(), 7, 0, 0])) {
             Ok(answer) => {
                 assert!(listed.contains(&number), "{answer:?}");
-                assert_eq!(refusal(&answer), Some(Refusal { number, place }));
+                let refusal = refusal(answer).expect("a refusal");
+                assert_eq!((refusal.reason.number(), refusal.place), (number, 7));
             }
             Err(message) => {
                 assert!(!listed.contains(&number), "{number}");
@@ -41,11 +41,65 @@ fn numbers_of_each_answer() {
 #[test]
 #[should_panic(expected = "broken link: libmiss_chance.a answered zone_empty with [0, 2, 0, 0]")]
 fn neither_yes_nor_no() {
-    Emptiness::from_words([0, 2, 0, 0]);
+    let _ = Emptiness::from_words([0, 2, 0, 0]);
 }
 
 #[test]
-#[should_panic(expected = "broken link: libmiss_chance.a answered a call with [0, 4294967296, 10, 3]")]
+#[should_panic(expected = "libmiss_chance.a answered judge with [0, 4294967296, 10, 3]")]
 fn a_value_over_32_bits() {
-    Verdict::from_words([0, 1 << 32, 10, 3]);
+    let _ = Verdict::from_words([0, 1 << 32, 10, 3]);
+}
+
+#[test]
+#[should_panic(expected = "libmiss_chance.a answered judge with [4294967297, 0, 0, 0]")]
+fn a_number_over_32_bits() {
+    let _ = Verdict::from_words([(1 << 32) + 1, 0, 0, 0]);
+}
+
+/// A file of the repository around this package.
+fn text_of(file: &str) -> String {
+    let path = format!("{}/../../{file}", env!("CARGO_MANIFEST_DIR"));
+    read_to_string(&path).unwrap_or_else(|error| panic!("{path}: {error}"))
+}
+
+/// This package's numbers with their names, in order.
+fn names() -> Vec<(u32, String)> {
+    let own = |reason: &Reason| (reason.number(), format!("{reason:?}"));
+    Reason::ALL.iter().map(own).collect()
+}
+
+/// `BAD_MODEL_KIND` as `BadModelKind`.
+fn camel(name: &str) -> String {
+    let word = |word: &str| word[..1].to_string() + &word[1..].to_lowercase();
+    name.split('_').map(word).collect()
+}
+
+#[test]
+fn the_header_has_the_same_names() {
+    let header = text_of("bindings/c/miss_chance.h");
+    let numbered = |line: &str| {
+        let (name, rest) = line
+            .trim()
+            .strip_prefix("MISS_CHANCE_")?
+            .split_once(" = ")?;
+        let digits = rest.split([',', ' ']).next()?;
+        Some((digits.parse().expect("a number"), camel(name)))
+    };
+    let mut expected = vec![(0, "Accepted".to_string())];
+    expected.extend(names());
+    let found: Vec<(u32, String)> = header.lines().filter_map(numbered).collect();
+    assert_eq!(found, expected);
+}
+
+#[test]
+fn the_list_of_refusals_has_the_same_names() {
+    let list = text_of("docs/REFUSALS.md");
+    let named = |line: &str| {
+        let mut cells = line.split('|').map(str::trim).skip(1);
+        let number = cells.next()?.parse().ok()?;
+        let name = cells.next()?.strip_prefix('`')?.strip_suffix('`')?;
+        Some((number, name.to_string()))
+    };
+    let found: Vec<(u32, String)> = list.lines().filter_map(named).collect();
+    assert_eq!(found, names());
 }

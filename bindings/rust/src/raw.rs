@@ -1,5 +1,7 @@
 //! The library's four calls, each with its answer as four words. All `unsafe` code is here.
 
+use crate::words::Words;
+
 extern "C" {
     fn miss_chance_judge(
         model: *const u32,
@@ -35,9 +37,6 @@ extern "C" {
         answer_words: usize,
     ) -> bool;
 }
-
-/// Word 0 is 0 and the values follow, or it is the refusal's number and the place follows.
-pub(crate) type Words = [u64; 4];
 
 pub(crate) fn judge(model: &[u32], table: &[u32]) -> Words {
     let mut answer = [0; 4];

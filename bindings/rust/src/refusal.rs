@@ -1,24 +1,55 @@
-//! What all refusals have in common.
+//! A refusal, whichever call gives it.
 
-use crate::raw::Words;
+use std::error::Error;
+use std::fmt;
 
-/// A refusal as document 01 writes it.
+use crate::words::{broken, value, Words};
+use crate::Reason;
+
+/// A refusal: why, and where. Document 01 has nothing else in it.
+///
+/// As an error it says `refused with 19 at place 4: the weighted sum is too large for the node's
+/// value`.
 #[derive(Clone, Copy, Debug, PartialEq, Eq)]
 pub struct Refusal {
-    /// Document 01's number, 1 to 33.
-    pub number: u32,
-    /// The index of a word, from 0; the length of the list if a word is lacking.
+    /// Why.
+    pub reason: Reason,
+    /// The index of a word, from 0; the length of the list if a word is lacking. It lies in the
+    /// model for numbers 1 to 6, in the table for 11 to 21, in the zone with the bad word for 32
+    /// and 33.
     pub place: usize,
 }
 
-/// A word of an answer as the number that it must fit.
-pub(crate) fn number<T: TryFrom<u64>>(words: Words, index: usize) -> T {
-    T::try_from(words[index]).unwrap_or_else(|_| broken("a call", words))
+impl Refusal {
+    /// Takes words that are no acceptance; `numbers` are those that the call gives.
+    pub(crate) fn from_words(
+        call: &str,
+        mut numbers: impl Iterator<Item = u32>,
+        words: Words,
+    ) -> Refusal {
+        let number = value(call, words, 0);
+        let mut all = Reason::ALL.iter();
+        match all.find(|reason| reason.number() == number) {
+            Some(&reason) if numbers.any(|given| given == number) => Refusal {
+                reason,
+                place: value(call, words, 1),
+            },
+            _ => broken(call, words),
+        }
+    }
+
+    /// The line that document 01's program prints.
+    pub(crate) fn write_line(self, out: &mut fmt::Formatter<'_>) -> fmt::Result {
+        write!(out, "REFUSED {} {}", self.reason.number(), self.place)
+    }
 }
 
-/// The library gave what document 01 does not have.
-pub(crate) fn broken(call: &str, words: Words) -> ! {
-    panic!(
-        "broken link: libmiss_chance.a answered {call} with {words:?}, which document 01 does not have"
-    )
+impl fmt::Display for Refusal {
+    fn fmt(&self, out: &mut fmt::Formatter<'_>) -> fmt::Result {
+        let Refusal { reason, place } = self;
+        let (number, meaning) = (reason.number(), reason.meaning());
+        write!(out, "refused with {number} at place {place}: {meaning}")
+    }
 }
+
+impl Error for Refusal {}

@@ -1,78 +1,106 @@
 //! The answers of the two questions about zones.
 
-use crate::raw::Words;
-use crate::refusal::{broken, number, Refusal};
+use std::fmt;
 
-/// The answer of [`zone_empty`](crate::zone_empty).
+use crate::words::{broken, Words};
+use crate::Refusal;
+
+/// The answer of [`zone_empty`](crate::zone_empty). It prints as `EMPTY`, `NOT EMPTY` or
+/// `REFUSED number place`.
 #[derive(Clone, Copy, Debug, PartialEq, Eq)]
+#[must_use = "the question may be refused"]
 pub enum Emptiness {
     /// No scale has a valuation in the zone.
     Empty,
     /// Some scale has one.
     NotEmpty,
-    /// 31: C outside 1 to 4. Document 01 gives the place 0.
-    BadClocks,
-    /// 32: a word that is no good bound, in kind, field or spare bit. The place is that word.
-    BadWord(usize),
+    /// The question is refused, with 31 or 32.
+    Refused(Refusal),
 }
 
 impl Emptiness {
-    /// Document 01's number and place, if this is a refusal.
-    pub fn refusal(&self) -> Option<Refusal> {
-        let (number, place) = match *self {
-            Emptiness::Empty | Emptiness::NotEmpty => return None,
-            Emptiness::BadClocks => (31, 0),
-            Emptiness::BadWord(place) => (32, place),
-        };
-        Some(Refusal { number, place })
+    /// The same as a `Result`: whether the zone is empty.
+    pub fn result(self) -> Result<bool, Refusal> {
+        match self {
+            Emptiness::Empty => Ok(true),
+            Emptiness::NotEmpty => Ok(false),
+            Emptiness::Refused(refusal) => Err(refusal),
+        }
+    }
+
+    /// The refusal, if this is one.
+    #[must_use]
+    pub fn refusal(self) -> Option<Refusal> {
+        self.result().err()
     }
 
     pub(crate) fn from_words(words: Words) -> Emptiness {
+        const CALL: &str = "zone_empty";
         match (words[0], words[1]) {
             (0, 1) => Emptiness::Empty,
             (0, 0) => Emptiness::NotEmpty,
-            (31, 0) => Emptiness::BadClocks,
-            (32, _) => Emptiness::BadWord(number(words, 1)),
-            _ => broken("zone_empty", words),
+            (0, _) => broken(CALL, words),
+            _ => Emptiness::Refused(Refusal::from_words(CALL, 31..=32, words)),
         }
     }
 }
 
-/// The answer of [`zone_inside`](crate::zone_inside).
+impl fmt::Display for Emptiness {
+    fn fmt(&self, out: &mut fmt::Formatter<'_>) -> fmt::Result {
+        match self {
+            Emptiness::Empty => out.write_str("EMPTY"),
+            Emptiness::NotEmpty => out.write_str("NOT EMPTY"),
+            Emptiness::Refused(refusal) => refusal.write_line(out),
+        }
+    }
+}
+
+/// The answer of [`zone_inside`](crate::zone_inside). It prints as `INSIDE`, `NOT INSIDE` or
+/// `REFUSED number place`.
 #[derive(Clone, Copy, Debug, PartialEq, Eq)]
+#[must_use = "the question may be refused"]
 pub enum Inclusion {
     /// At every scale, each valuation in the first zone is in the second.
     Inside,
     /// Some scale has a valuation in the first zone that is not in the second.
     NotInside,
-    /// 31: C outside 1 to 4. Document 01 gives the place 0.
-    BadClocks,
-    /// 32: a word of the first list that is no good bound. The place is that word, in its list.
-    BadFirst(usize),
-    /// 33: a word of the second list that is no good bound. The place is that word, in its list.
-    BadSecond(usize),
+    /// The question is refused, with 31 to 33.
+    Refused(Refusal),
 }
 
 impl Inclusion {
-    /// Document 01's number and place, if this is a refusal.
-    pub fn refusal(&self) -> Option<Refusal> {
-        let (number, place) = match *self {
-            Inclusion::Inside | Inclusion::NotInside => return None,
-            Inclusion::BadClocks => (31, 0),
-            Inclusion::BadFirst(place) => (32, place),
-            Inclusion::BadSecond(place) => (33, place),
-        };
-        Some(Refusal { number, place })
+    /// The same as a `Result`: whether the first zone lies inside the second.
+    pub fn result(self) -> Result<bool, Refusal> {
+        match self {
+            Inclusion::Inside => Ok(true),
+            Inclusion::NotInside => Ok(false),
+            Inclusion::Refused(refusal) => Err(refusal),
+        }
+    }
+
+    /// The refusal, if this is one.
+    #[must_use]
+    pub fn refusal(self) -> Option<Refusal> {
+        self.result().err()
     }
 
     pub(crate) fn from_words(words: Words) -> Inclusion {
+        const CALL: &str = "zone_inside";
         match (words[0], words[1]) {
             (0, 1) => Inclusion::Inside,
             (0, 0) => Inclusion::NotInside,
-            (31, 0) => Inclusion::BadClocks,
-            (32, _) => Inclusion::BadFirst(number(words, 1)),
-            (33, _) => Inclusion::BadSecond(number(words, 1)),
-            _ => broken("zone_inside", words),
+            (0, _) => broken(CALL, words),
+            _ => Inclusion::Refused(Refusal::from_words(CALL, 31..=33, words)),
+        }
+    }
+}
+
+impl fmt::Display for Inclusion {
+    fn fmt(&self, out: &mut fmt::Formatter<'_>) -> fmt::Result {
+        match self {
+            Inclusion::Inside => out.write_str("INSIDE"),
+            Inclusion::NotInside => out.write_str("NOT INSIDE"),
+            Inclusion::Refused(refusal) => refusal.write_line(out),
         }
     }
 }

@@ -1,0 +1,16 @@
+//! The four words of an answer: 0 and the values of an acceptance, or a refusal's number and place.
+
+pub(crate) type Words = [u64; 4];
+
+/// A word of an answer as the number that it must fit.
+pub(crate) fn value<T: TryFrom<u64>>(call: &str, words: Words, index: usize) -> T {
+    T::try_from(words[index]).unwrap_or_else(|_| broken(call, words))
+}
+
+/// The library gave what document 01 does not have.
+pub(crate) fn broken(call: &str, words: Words) -> ! {
+    panic!(
+        "broken link: libmiss_chance.a answered {call} with {words:?}, which document 01 does not \
+         have"
+    )
+}
