@@ -119,7 +119,7 @@ fn judging(name: &str, model: &[u32], table: &[u32]) -> Line {
         name: name.to_string(),
         words: model.len() + table.len(),
         ours: Box::new(move || {
-            black_box(miss_chance::judge(black_box(&model), black_box(&table)));
+            let _ = black_box(miss_chance::judge(black_box(&model), black_box(&table)));
         }),
         theirs: Box::new(move || {
             black_box(reading::judge(black_box(&pair.0), black_box(&pair.1))).ok();
@@ -135,7 +135,7 @@ fn reading_a_model(words: &[u32]) -> Line {
         name: "read a model".to_string(),
         words: words.len(),
         ours: Box::new(move || {
-            black_box(miss_chance::read_model(black_box(&words)));
+            let _ = black_box(miss_chance::read_model(black_box(&words)));
         }),
         theirs: Box::new(move || {
             black_box(reading::read_model(black_box(&copy))).ok();
@@ -154,7 +154,7 @@ fn asking_empty(words: &[u32]) -> Line {
         name: "is a zone empty".to_string(),
         words: words.len(),
         ours: Box::new(move || {
-            black_box(miss_chance::zone_empty(4, black_box(&words)));
+            let _ = black_box(miss_chance::zone_empty(4, black_box(&words)));
         }),
         theirs: Box::new(move || {
             black_box(reading::zone_empty(4, black_box(&copy))).ok();
@@ -171,7 +171,7 @@ fn asking_inside(first: &[u32], second: &[u32]) -> Line {
         name: "one zone inside another".to_string(),
         words: first.len() + second.len(),
         ours: Box::new(move || {
-            black_box(miss_chance::zone_inside(
+            let _ = black_box(miss_chance::zone_inside(
                 4,
                 black_box(&first),
                 black_box(&second),
