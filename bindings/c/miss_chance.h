@@ -1,7 +1,8 @@
 /*
  * The miss-chance judge, for C and C++: four calls over lists of 32-bit words, as document 01 ("The miss-chance judge: timelines, tables
- * and the bound they certify") defines them. Link with target/staticlib/libmiss_chance.a, which `rt staticlib miss_chance` proves and writes
- * at the repository's root (x86-64, System V calling convention).
+ * and the bound they certify") defines them; docs/FORMAT.md of the repository says what the words are, docs/REFUSALS.md what each refusal
+ * means. Link with target/staticlib/libmiss_chance.a, which `rt staticlib miss_chance` proves and writes at the repository's root (x86-64,
+ * System V calling convention).
  *
  * THE ANSWER. Each call writes its answer to the first four words of `answer` and returns true:
  *

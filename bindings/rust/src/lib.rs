@@ -1,6 +1,7 @@
 //! The miss-chance judge: four calls over lists of 32-bit words, as document 01 ("The miss-chance
-//! judge: timelines, tables and the bound they certify") defines them. The work is done by a
-//! verified library; this crate lends it slices and turns its answers into enums.
+//! judge: timelines, tables and the bound they certify") defines them; docs/FORMAT.md of the
+//! repository says what the words are. The work is done by a verified library; this crate lends it
+//! slices and turns its answers into enums.
 //!
 //! Document 01's worked timeline and its table:
 //!
