@@ -3,10 +3,12 @@
 //! `reading` is an independent reading of document 01. `plan` draws inputs (`models`, `explore`,
 //! `edits`, `mutate`, `garbage`, `boundaries`, `questions`, `program_inputs`) and has the judge under
 //! test and the reading answer them (`comparer`). `evidence` holds answers against valuations that
-//! are tried one by one (`points`, `player`, `witness`). `self_check` shows that the tests can
+//! are tried one by one (`points`, `player`, `witness`). `cases` holds the judge and the reading against
+//! the stored answers of the cases under `tests/cases`. `self_check` shows that the tests can
 //! fail, with judges that are wrong on purpose (`wrong`, `flawed`).
 
 pub mod boundaries;
+pub mod cases;
 pub mod comparer;
 pub mod drafts;
 pub mod edits;

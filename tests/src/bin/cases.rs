@@ -1,0 +1,56 @@
+//! Asks the judge under test and the independent reading the cases of `tests/cases`.
+//!
+//! `cases [--program PATH]`: exit code 0 if every answer is the stored one and no case is lacking.
+//! `cases --words`: prints every case with all its words, and asks nothing.
+
+use std::path::{Path, PathBuf};
+use std::process::ExitCode;
+use std::time::Instant;
+
+use outside::cases::run::Outcome;
+use outside::cases::{files, Case};
+use outside::sides::UnderTest;
+
+fn main() -> ExitCode {
+    let tests = Path::new(env!("CARGO_MANIFEST_DIR"));
+    let cases = match files::all(&tests.join("cases")) {
+        Ok(cases) => cases,
+        Err(mistake) => return failed(&mistake.to_string()),
+    };
+    let arguments: Vec<String> = std::env::args().skip(1).collect();
+    let arguments: Vec<&str> = arguments.iter().map(String::as_str).collect();
+    match arguments[..] {
+        [] => asked(&cases, tests.join("../target/bin/judge_cli")),
+        ["--program", program] => asked(&cases, PathBuf::from(program)),
+        ["--words"] => {
+            for case in &cases {
+                println!("{} | {} | {}", case.name, case.call, case.answer);
+            }
+            ExitCode::SUCCESS
+        }
+        _ => failed("usage: cases [--program PATH | --words]"),
+    }
+}
+
+fn asked(cases: &[Case], program: PathBuf) -> ExitCode {
+    let started = Instant::now();
+    let outcome = Outcome::of(cases, &UnderTest { program });
+    print!("{}", outcome.counted());
+    for difference in &outcome.differences {
+        println!("{difference}");
+    }
+    println!("{:.1} s", started.elapsed().as_secs_f64());
+    let mut faults = outcome.lacks();
+    if !outcome.differences.is_empty() {
+        faults.push(format!("{} differences", outcome.differences.len()));
+    }
+    match faults.is_empty() {
+        true => ExitCode::SUCCESS,
+        false => failed(&faults.join("; ")),
+    }
+}
+
+fn failed(why: &str) -> ExitCode {
+    println!("FAILED: {why}");
+    ExitCode::FAILURE
+}

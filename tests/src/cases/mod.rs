@@ -1,0 +1,47 @@
+//! The cases that stand as text under `tests/cases`, a case a line: its name, the call with its words,
+//! and the answer of document 01.
+//!
+//! `lines` takes a text apart, `words` reads lists of words, `edits` the changes in one, `calls` the
+//! calls and `answers` what they answer; `files` puts the cases together. `run` asks the judge under
+//! test and the independent reading. `tests/cases/README.md` says how the lines are written.
+
+pub mod answers;
+pub mod calls;
+mod edits;
+pub mod files;
+mod lines;
+pub mod run;
+mod words;
+
+use std::fmt;
+
+use answers::Answer;
+use calls::Call;
+
+/// A case, and where it stands.
+#[derive(Clone, Debug)]
+pub struct Case {
+    pub file: String,
+    pub line: usize,
+    pub name: String,
+    pub call: Call,
+    pub answer: Answer,
+}
+
+/// What makes a case file unreadable.
+#[derive(Debug)]
+pub struct Mistake {
+    pub file: String,
+    /// From 1, or 0 where it is no line's.
+    pub line: usize,
+    pub what: String,
+}
+
+impl fmt::Display for Mistake {
+    fn fmt(&self, out: &mut fmt::Formatter<'_>) -> fmt::Result {
+        match self.line {
+            0 => write!(out, "{}: {}", self.file, self.what),
+            line => write!(out, "{}:{line}: {}", self.file, self.what),
+        }
+    }
+}
