@@ -22,6 +22,9 @@ for compiler in 'gcc -std=c99' 'g++ -std=c++11'; do # g++ takes a .c file as C++
 done
 echo '== ./judge'
 tests/judge_script.sh
-echo '== the reading, and the judge compared with it'
+echo '== the reading'
 cargo test --release --quiet --locked --offline --manifest-path tests/Cargo.toml
+echo '== the cases'
+cargo run --release --quiet --locked --offline --manifest-path tests/Cargo.toml --bin cases
+echo '== the judge compared with the reading'
 cargo run --release --quiet --locked --offline --manifest-path tests/Cargo.toml --bin compare -- "$@"

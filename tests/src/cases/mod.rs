@@ -1,13 +1,13 @@
 //! The cases that stand as text under `tests/cases`, a case a line: its name, the call with its words,
 //! and the answer of document 01.
 //!
-//! `lines` takes a text apart, `words` reads lists of words, `edits` the changes in one, `calls` the
+//! `lines` takes a text apart, `words` reads lists of words, `changes` the changes in one, `calls` the
 //! calls and `answers` what they answer; `files` puts the cases together. `run` asks the judge under
 //! test and the independent reading. `tests/cases/README.md` says how the lines are written.
 
 pub mod answers;
 pub mod calls;
-mod edits;
+mod changes;
 pub mod files;
 mod lines;
 pub mod run;

@@ -86,3 +86,86 @@ impl Outcome {
             .collect()
     }
 }
+
+#[cfg(test)]
+mod tests {
+    use std::fs;
+    use std::path::{Path, PathBuf};
+
+    use super::super::files;
+    use super::super::words::Named;
+    use super::*;
+    use crate::wrong::{self, right};
+
+    fn root() -> PathBuf {
+        Path::new(env!("CARGO_MANIFEST_DIR")).join("cases")
+    }
+
+    fn stored() -> Vec<Case> {
+        files::all(&root()).unwrap_or_else(|mistake| panic!("{mistake}"))
+    }
+
+    /// What a run over a text finds, with the reading in the place of the judge under test.
+    fn differences(file: &str, text: &str, named: &mut Named) -> Vec<String> {
+        let cases = files::parse(file, text, named).unwrap_or_else(|mistake| panic!("{mistake}"));
+        Outcome::of(&cases, &right("right")).differences
+    }
+
+    #[test]
+    fn the_right_side_passes() {
+        let outcome = Outcome::of(&stored(), &right("right"));
+        assert_eq!(outcome.differences, [""; 0]);
+        assert_eq!(outcome.lacks(), [""; 0]);
+    }
+
+    #[test]
+    fn a_wrong_answer_is_reported() {
+        let text = "a | zone_empty(1, 51000FFF) | EMPTY\nb | zone_empty(1, none) | EMPTY\n";
+        let found = differences("a.txt", text, &mut Named::new());
+        assert_eq!(found.len(), 2, "{found:?}"); // the library's answer, and the reading's
+        assert!(found.iter().all(|one| one.starts_with("a.txt:2: b\n")));
+        assert!(found[0].contains("expected \"EMPTY\", the library says \"NOT EMPTY\""));
+    }
+
+    /// A stored file with 20 where one answer is 21.
+    #[test]
+    fn an_answer_that_is_changed_is_reported() {
+        let read = |file: &str| fs::read_to_string(root().join(file)).expect("a case file");
+        let mut named = Named::new();
+        assert!(files::parse("bases", &read("judge/bases.txt"), &mut named).is_ok());
+        let text = read("judge/starts.txt");
+        assert_eq!(differences("a", &text, &mut named.clone()), [""; 0]);
+        let changed = text.replacen("REFUSED 21 ", "REFUSED 20 ", 1);
+        let found = differences("a", &changed, &mut named);
+        let line = changed
+            .lines()
+            .position(|line| line.contains("REFUSED 20 "));
+        let place = format!("a:{}: ", line.map_or(0, |line| line + 1));
+        assert_eq!(found.len(), 4, "{found:?}"); // by the calls and by the file, of either side
+        assert!(found.iter().all(|one| one.starts_with(&place)), "{found:?}");
+        assert!(found[0].contains("REFUSED 20") && found[0].contains("REFUSED 21"));
+    }
+
+    #[test]
+    fn an_idle_run_lacks_everything() {
+        assert_eq!(Outcome::of(&[], &right("right")).lacks().len(), LEAST.len());
+    }
+
+    /// All judges that are wrong on purpose, but for those whose flaw lies in bytes that are no words.
+    #[test]
+    fn wrong_judges_are_caught() {
+        let cases = stored();
+        let passes = |side: &wrong::Wrong| Outcome::of(&cases, side).differences.is_empty();
+        let passed: Vec<String> = wrong::all()
+            .into_iter()
+            .filter(passes)
+            .map(|side| side.name)
+            .collect();
+        let of_bytes = [
+            "asks 41 before 42",
+            "takes 65,536 bytes for too many",
+            "leaves the odd bytes",
+        ];
+        assert_eq!(passed, of_bytes);
+    }
+}

@@ -2,7 +2,7 @@
 
 use std::collections::BTreeMap;
 
-use super::edits::edited;
+use super::changes::changed;
 
 /// The lists that have a name.
 pub type Named = BTreeMap<String, Vec<u32>>;
@@ -82,7 +82,7 @@ impl<'a> Rest<'a> {
             if let Some(after) = self.text.strip_prefix('[') {
                 let (changes, after) = after.split_once(']').ok_or("a [ without its ]")?;
                 self.text = after;
-                words = edited(&words, changes)?;
+                words = changed(&words, changes)?;
             } else if let Some(after) = self.text.strip_prefix('*') {
                 self.text = after;
                 let times: usize = number(self.token())?;

@@ -12,7 +12,7 @@ struct Slot {
 }
 
 /// The list as it is changed.
-struct Edited {
+struct Changed {
     /// One for each word, and one for what is put in behind the last.
     slots: Vec<Slot>,
     /// How many words stay, and how far the changes reach.
@@ -22,14 +22,14 @@ struct Edited {
 
 /// A list with its changes: `3=W` exchanges word 3, `3+W` puts W in before it, `3^W` flips the bits of
 /// W in it, `-3` takes it out, `..3` leaves words 0 to 2.
-pub fn edited(words: &[u32], changes: &str) -> Result<Vec<u32>, String> {
+pub fn changed(words: &[u32], changes: &str) -> Result<Vec<u32>, String> {
     let slot = |&word: &u32| Slot {
         word: Some(word),
         ..Slot::default()
     };
     let mut slots: Vec<Slot> = words.iter().map(slot).collect();
     slots.push(Slot::default());
-    let mut list = Edited {
+    let mut list = Changed {
         slots,
         left: words.len(),
         reached: 0,
@@ -44,7 +44,7 @@ pub fn edited(words: &[u32], changes: &str) -> Result<Vec<u32>, String> {
     list.words()
 }
 
-impl Edited {
+impl Changed {
     fn change(&mut self, change: &str) -> Result<(), String> {
         if let Some(left) = change.strip_prefix("..") {
             self.left = number(left)?;
@@ -106,27 +106,27 @@ impl Edited {
 mod tests {
     use super::*;
 
-    fn changed(changes: &str) -> Result<Vec<u32>, String> {
-        edited(&[10, 11, 12], changes)
+    fn of_three(changes: &str) -> Result<Vec<u32>, String> {
+        changed(&[10, 11, 12], changes)
     }
 
     #[test]
     fn each_change() {
-        assert_eq!(changed("1=00000007"), Ok(vec![10, 7, 12]));
-        assert_eq!(changed("1+00000007"), Ok(vec![10, 7, 11, 12]));
-        assert_eq!(changed("3+00000007"), Ok(vec![10, 11, 12, 7]));
-        assert_eq!(changed("1^00000003"), Ok(vec![10, 8, 12]));
-        assert_eq!(changed("-1"), Ok(vec![10, 12]));
-        assert_eq!(changed("..2"), Ok(vec![10, 11]));
-        assert_eq!(changed("..0"), Ok(vec![]));
-        assert_eq!(changed("..3"), Ok(vec![10, 11, 12]));
+        assert_eq!(of_three("1=00000007"), Ok(vec![10, 7, 12]));
+        assert_eq!(of_three("1+00000007"), Ok(vec![10, 7, 11, 12]));
+        assert_eq!(of_three("3+00000007"), Ok(vec![10, 11, 12, 7]));
+        assert_eq!(of_three("1^00000003"), Ok(vec![10, 8, 12]));
+        assert_eq!(of_three("-1"), Ok(vec![10, 12]));
+        assert_eq!(of_three("..2"), Ok(vec![10, 11]));
+        assert_eq!(of_three("..0"), Ok(vec![]));
+        assert_eq!(of_three("..3"), Ok(vec![10, 11, 12]));
     }
 
     #[test]
     fn places_are_those_before_the_changes() {
         let several = "0+00000001 0+00000002 0=00000003 -1 2+00000004";
-        assert_eq!(changed(several), Ok(vec![1, 2, 3, 4, 12]));
-        assert_eq!(changed("..1 0=00000007 1+00000008"), Ok(vec![7, 8]));
+        assert_eq!(of_three(several), Ok(vec![1, 2, 3, 4, 12]));
+        assert_eq!(of_three("..1 0=00000007 1+00000008"), Ok(vec![7, 8]));
     }
 
     #[test]
@@ -143,7 +143,7 @@ mod tests {
             ("-1 1=00000007", "word 1 is changed twice"),
             ("..1 2=00000007", "a word that is cut off"),
         ] {
-            let wrong = changed(changes).expect_err(changes);
+            let wrong = of_three(changes).expect_err(changes);
             assert!(wrong.contains(told), "{changes}: {wrong}");
         }
     }
