@@ -1,10 +1,10 @@
-//! Asks both sides the same and counts the answers; the first difference is a fault.
+//! Asks all sides the same and counts the answers; the first difference is a fault.
 
 use std::collections::BTreeMap;
 use std::fmt::{self, Debug};
 
 use crate::reading::{Certificate, Counts, Refusal};
-use crate::sides::{Reading, Side};
+use crate::sides::{Plain, Reading, Side};
 use crate::spell;
 
 /// What makes a run fail, with the input written out.
@@ -17,7 +17,7 @@ impl fmt::Display for Fault {
     }
 }
 
-/// What both sides said, without its values and places.
+/// What all sides said, without its values and places.
 #[derive(Clone, Copy, Debug, PartialEq, Eq, PartialOrd, Ord)]
 pub enum Answer {
     Accepted,
@@ -37,11 +37,18 @@ impl Answer {
     }
 }
 
-/// How often each call was compared, by call and answer.
+/// How often each call was compared.
 #[derive(Default)]
 pub struct Tally {
+    /// By call and answer.
     pub answers: BTreeMap<(&'static str, Answer), usize>,
+    /// By side: answers that were the reading's.
+    pub agreed: BTreeMap<&'static str, usize>,
 }
+
+/// The names of the two sides that are compared with the reading.
+pub const UNDER_TEST: &str = "under test";
+pub const PLAIN: &str = "plain judge";
 
 impl Tally {
     fn count(&mut self, call: &'static str, answer: Answer) {
@@ -68,12 +75,13 @@ impl Tally {
     }
 }
 
-/// The answer that both sides gave, or their difference.
+/// The answer that all sides gave, or a difference.
 pub type Same<T> = Result<Result<T, Refusal>, Fault>;
 
-/// Compares one side with the independent reading.
+/// Compares the side under test, and the plain judge, with the independent reading.
 pub struct Comparer<'a> {
     pub under_test: &'a dyn Side,
+    pub plain: &'a dyn Side,
     pub tally: Tally,
 }
 
@@ -81,52 +89,48 @@ impl<'a> Comparer<'a> {
     pub fn new(under_test: &'a dyn Side) -> Comparer<'a> {
         Comparer {
             under_test,
+            plain: &Plain,
             tally: Tally::default(),
         }
     }
 
-    /// Judging, with the answer that both gave.
+    /// Judging, with the answer that all gave.
     pub fn judge(&mut self, model: &[u32], table: &[u32]) -> Same<Certificate> {
-        let ours = Reading.judge(model, table);
-        let theirs = self.under_test.judge(model, table);
+        let ask = |side: &dyn Side| side.judge(model, table);
         let input = [("model", model), ("table", table)];
-        self.settle("judge", ours, theirs, &input, |_| Answer::Accepted)
+        self.call("judge", ask, &input, |_| Answer::Accepted)
     }
 
     pub fn read_model(&mut self, model: &[u32]) -> Same<Counts> {
-        let ours = Reading.read_model(model);
-        let theirs = self.under_test.read_model(model);
+        let ask = |side: &dyn Side| side.read_model(model);
         let input = [("model", model)];
-        self.settle("read_model", ours, theirs, &input, |_| Answer::Accepted)
+        self.call("read_model", ask, &input, |_| Answer::Accepted)
     }
 
     pub fn zone_empty(&mut self, clocks: u32, zone: &[u32]) -> Same<bool> {
-        let ours = Reading.zone_empty(clocks, zone);
-        let theirs = self.under_test.zone_empty(clocks, zone);
+        let ask = |side: &dyn Side| side.zone_empty(clocks, zone);
         let input = [("clocks", &[clocks][..]), ("zone", zone)];
-        self.settle("zone_empty", ours, theirs, &input, Answer::to_question)
+        self.call("zone_empty", ask, &input, Answer::to_question)
     }
 
     pub fn zone_inside(&mut self, clocks: u32, first: &[u32], second: &[u32]) -> Same<bool> {
-        let ours = Reading.zone_inside(clocks, first, second);
-        let theirs = self.under_test.zone_inside(clocks, first, second);
+        let ask = |side: &dyn Side| side.zone_inside(clocks, first, second);
         let input = [
             ("clocks", &[clocks][..]),
             ("first", first),
             ("second", second),
         ];
-        self.settle("zone_inside", ours, theirs, &input, Answer::to_question)
+        self.call("zone_inside", ask, &input, Answer::to_question)
     }
 
     /// The program's line, compared byte for byte.
     pub fn program(&mut self, bytes: &[u8]) -> Result<(), Fault> {
-        let (ours, theirs) = (Reading.program(bytes), self.under_test.program(bytes));
-        if ours != theirs {
+        let input = || {
             let hex: String = bytes.iter().map(|byte| format!("{byte:02X}")).collect();
-            let input = format!("{} bytes: {hex}", bytes.len());
-            return Err(difference("program", &input, &ours, &theirs));
-        }
-        let number = ours
+            format!("{} bytes: {hex}", bytes.len())
+        };
+        let line = self.same("program", |side| side.program(bytes), input)?;
+        let number = line
             .strip_prefix("REFUSED ")
             .and_then(|rest| rest.split(' ').next());
         let number = number.and_then(|digits| digits.parse().ok());
@@ -135,20 +139,40 @@ impl<'a> Comparer<'a> {
         Ok(())
     }
 
-    fn settle<T: Debug + PartialEq>(
+    fn call<T: Debug + PartialEq>(
         &mut self,
         call: &'static str,
-        ours: Result<T, Refusal>,
-        theirs: Result<T, Refusal>,
+        ask: impl Fn(&dyn Side) -> Result<T, Refusal>,
         input: &[(&str, &[u32])],
         accepted: impl Fn(&T) -> Answer,
     ) -> Same<T> {
-        if ours != theirs {
-            return Err(difference(call, &written(input), &ours, &theirs));
-        }
+        let same = self.same(call, ask, || written(input))?;
         let refused = |refusal: &Refusal| Answer::Refused(refusal.number);
-        let answer = ours.as_ref().map_or_else(refused, accepted);
+        let answer = same.as_ref().map_or_else(refused, accepted);
         self.tally.count(call, answer);
+        Ok(same)
+    }
+
+    /// The reading's answer, if the others give the same.
+    fn same<A: Debug + PartialEq>(
+        &mut self,
+        call: &str,
+        ask: impl Fn(&dyn Side) -> A,
+        input: impl Fn() -> String,
+    ) -> Result<A, Fault> {
+        let ours = ask(&Reading);
+        for (name, side) in [(UNDER_TEST, self.under_test), (PLAIN, self.plain)] {
+            let theirs = ask(side);
+            if ours != theirs {
+                let input = input();
+                return Err(Fault(format!(
+                    "{call} differs\n{input}\n{:<13}{ours:?}\n{:<13}{theirs:?}",
+                    "reading:",
+                    format!("{name}:")
+                )));
+            }
+            *self.tally.agreed.entry(name).or_default() += 1;
+        }
         Ok(ours)
     }
 }
@@ -157,10 +181,4 @@ impl<'a> Comparer<'a> {
 pub fn written(input: &[(&str, &[u32])]) -> String {
     let line = |(name, words): &(&str, &[u32])| format!("{name}: {}", spell::hex(words));
     input.iter().map(line).collect::<Vec<_>>().join("\n")
-}
-
-fn difference(call: &str, input: &str, ours: &dyn Debug, theirs: &dyn Debug) -> Fault {
-    Fault(format!(
-        "{call} differs\n{input}\nreading:    {ours:?}\nunder test: {theirs:?}"
-    ))
 }

@@ -74,7 +74,7 @@ impl<'a> Run<'a> {
         self.drawn(work)
     }
 
-    /// Directed and random inputs, each with its answer from both sides.
+    /// Directed and random inputs, each with its answer from all sides.
     pub fn drawn(&mut self, work: &Work) -> Result<(), Fault> {
         for _ in 0..work.boundaries {
             self.boundaries()?;
@@ -99,6 +99,7 @@ impl<'a> Run<'a> {
     /// Document 01's own cases.
     fn worked_cases(&mut self) -> Result<(), Fault> {
         worked::check(self.comparer.under_test)?;
+        worked::check(self.comparer.plain)?;
         for case in worked::cases() {
             self.model(&case.model)?;
             self.played_pair(&case.model, &case.table)?;

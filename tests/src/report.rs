@@ -3,7 +3,7 @@
 use std::collections::BTreeMap;
 use std::fmt::{Display, Write};
 
-use crate::comparer::{Answer, Tally};
+use crate::comparer::{Answer, Tally, PLAIN, UNDER_TEST};
 use crate::evidence::Evidence;
 
 const CALLS: [&str; 5] = [
@@ -49,9 +49,10 @@ pub fn comparisons(tally: &Tally) -> String {
     }
     let _ = writeln!(
         text,
-        "{:<12}{:>8}  no difference",
+        "{:<12}{:>8}  no difference from the reading: {}",
         "together",
-        tally.total()
+        tally.total(),
+        listed(&tally.agreed)
     );
     text
 }
@@ -103,6 +104,11 @@ fn listed<K: Display>(counts: &BTreeMap<K, usize>) -> String {
     entries.join(", ")
 }
 
+/// How many answers of a side were the reading's.
+fn agreed(tally: &Tally, side: &str) -> usize {
+    tally.agreed.get(side).copied().unwrap_or(0)
+}
+
 /// What a run that found no fault lacks nevertheless; empty if nothing.
 pub fn lacks(tally: &Tally, evidence: &Evidence) -> Vec<String> {
     let refused =
@@ -116,7 +122,12 @@ pub fn lacks(tally: &Tally, evidence: &Evidence) -> Vec<String> {
         (count, 1, format!("witnesses for {number}"))
     });
     let others = [
-        (tally.total(), 100_000, "comparisons"),
+        (agreed(tally, UNDER_TEST), 100_000, "comparisons"),
+        (
+            agreed(tally, PLAIN),
+            tally.total().max(1),
+            "of the plain judge",
+        ),
         (tally.of_call("program"), 5000, "program runs"),
         (evidence.played, 1000, "tables played"),
         (evidence.tight, 100, "bounds found to be tight"),
@@ -142,6 +153,6 @@ mod tests {
     #[test]
     fn an_idle_run_lacks_everything() {
         let lacks = lacks(&Tally::default(), &Evidence::default());
-        assert_eq!(lacks.len(), REFUSALS.len() + ANSWERS.len() + 3 + 6);
+        assert_eq!(lacks.len(), REFUSALS.len() + ANSWERS.len() + 3 + 7);
     }
 }

@@ -1,7 +1,7 @@
 //! Shows that the tests can fail: wrong judges are caught, false bounds and refusals are objected to.
 
 use crate::boundaries::large_sum;
-use crate::comparer::Fault;
+use crate::comparer::{Fault, PLAIN, UNDER_TEST};
 use crate::evidence::Evidence;
 use crate::flawed::{flawed_judge, Flaw};
 use crate::plan::{small_pairs, Run, Work};
@@ -12,17 +12,34 @@ use crate::wrong::{self, Wrong};
 
 /// Runs every wrong judge until a difference is found: its name and the comparisons before that.
 pub fn wrong_judges() -> Result<Vec<(String, usize)>, Fault> {
-    wrong::all().into_iter().map(caught).collect()
+    wrong::all().iter().map(caught).collect()
 }
 
-fn caught(wrong: Wrong) -> Result<(String, usize), Fault> {
-    let mut run = Run::new(&wrong, 3);
+fn caught(wrong: &Wrong) -> Result<(String, usize), Fault> {
+    let run = Run::new(wrong, 3);
+    caught_at(UNDER_TEST, run, wrong)
+}
+
+/// The same with every wrong judge in the place of the plain judge, beside a right one.
+pub fn wrong_plain_judges() -> Result<Vec<(String, usize)>, Fault> {
+    wrong::all().iter().map(caught_as_plain).collect()
+}
+
+fn caught_as_plain(wrong: &Wrong) -> Result<(String, usize), Fault> {
+    let right = wrong::right("right");
+    let mut run = Run::new(&right, 3);
+    run.comparer.plain = wrong;
+    caught_at(PLAIN, run, wrong)
+}
+
+/// The fault must name the side that is wrong.
+fn caught_at(side: &str, mut run: Run, wrong: &Wrong) -> Result<(String, usize), Fault> {
     match run.drawn(&Work::SHORT) {
-        Ok(()) => Err(Fault(format!("not caught: {}", wrong.name))),
-        Err(_) => {
-            let before = run.comparer.tally.total();
-            Ok((wrong.name, before))
+        Err(fault) if fault.0.contains(&format!("\n{side}:")) => {
+            Ok((wrong.name.clone(), run.comparer.tally.total()))
         }
+        Err(fault) => Err(Fault(format!("{}: not as {side}: {fault}", wrong.name))),
+        Ok(()) => Err(Fault(format!("not caught: {} as {side}", wrong.name))),
     }
 }
 
@@ -107,6 +124,12 @@ mod tests {
     #[test]
     fn every_wrong_judge_is_caught() {
         let caught = wrong_judges();
+        assert!(caught.is_ok(), "{caught:?}");
+    }
+
+    #[test]
+    fn so_is_every_wrong_plain_judge() {
+        let caught = wrong_plain_judges();
         assert!(caught.is_ok(), "{caught:?}");
     }
 

@@ -1,4 +1,4 @@
-//! The two sides that are compared: the judge under test and the independent reading.
+//! The sides that are compared: the judge under test, the independent reading and the plain judge.
 
 use std::io::{ErrorKind, Write};
 use std::path::PathBuf;
@@ -6,6 +6,7 @@ use std::process::{ChildStdin, Command, Stdio};
 use std::thread::sleep;
 use std::time::Duration;
 
+use crate::plain;
 use crate::reading::{self, Certificate, Counts, Refusal};
 
 /// The four calls and the program, with the answers of document 01.
@@ -41,6 +42,45 @@ impl Side for Reading {
     fn program(&self, bytes: &[u8]) -> String {
         reading::program(bytes)
     }
+}
+
+/// The plain judge.
+pub struct Plain;
+
+impl Side for Plain {
+    fn judge(&self, model: &[u32], table: &[u32]) -> Result<Certificate, Refusal> {
+        let accepted = plain::judge(model, table).map_err(plainly_refused)?;
+        Ok(Certificate {
+            b: accepted.value,
+            whole: accepted.whole,
+            nodes: accepted.nodes,
+        })
+    }
+
+    fn read_model(&self, words: &[u32]) -> Result<Counts, Refusal> {
+        let accepted = plain::read_model(words).map_err(plainly_refused)?;
+        Ok(Counts {
+            locations: accepted.locations,
+            actions: accepted.actions,
+            edges: accepted.edges,
+        })
+    }
+
+    fn zone_empty(&self, clocks: u32, words: &[u32]) -> Result<bool, Refusal> {
+        plain::zone_empty(clocks, words).map_err(plainly_refused)
+    }
+
+    fn zone_inside(&self, clocks: u32, first: &[u32], second: &[u32]) -> Result<bool, Refusal> {
+        plain::zone_inside(clocks, first, second).map_err(plainly_refused)
+    }
+
+    fn program(&self, bytes: &[u8]) -> String {
+        plain::program(bytes)
+    }
+}
+
+fn plainly_refused(plain::Refusal { number, place }: plain::Refusal) -> Refusal {
+    Refusal { number, place }
 }
 
 /// The verified judge: its calls from the crate `miss_chance`, its program from a file.

@@ -91,6 +91,6 @@ fn expect(input: &str, wanted: &str, answered: &str) -> Result<(), Fault> {
         return Ok(());
     }
     Err(Fault(format!(
-        "worked case {input}\ndocument 01: {wanted:?}\nunder test:  {answered:?}"
+        "worked case {input}\ndocument 01: {wanted:?}\nanswered:    {answered:?}"
     )))
 }

@@ -1,4 +1,5 @@
-//! Compares the judge under test with the independent reading and with the exhaustive player.
+//! Compares the judge under test and the plain judge with the independent reading, and answers with the
+//! exhaustive player.
 //!
 //! `compare [--program PATH] [--long N]`: exit code 0 if all answers agree and nothing is lacking.
 //! `--long N` does the work N times, each time with other seeds.
@@ -90,6 +91,8 @@ fn catch_wrong_judges() -> Result<(), Fault> {
     for (name, before) in self_check::wrong_judges()? {
         println!("caught after {before:>5} equal answers: {name}");
     }
+    let as_plain = self_check::wrong_plain_judges()?.len();
+    println!("caught in the place of the plain judge, too: {as_plain}");
     for (name, before) in self_check::flaws_against_player()? {
         println!("the player objects after {before:>5} answers: {name}");
     }

@@ -1,0 +1,86 @@
+//! Judging a table that is read: refusals 15 to 21.
+
+use super::model::{Action, Model};
+use super::table::{number_of, Node, Table, BLOCKED};
+use super::zone::Zone;
+use super::{demand, Certificate, Refusal};
+
+/// The guards of the model have their landings; `words` are the table's.
+pub fn judge_table(model: &Model, table: &Table, words: &[u32]) -> Result<Certificate, Refusal> {
+    let judge = Judge {
+        model,
+        table,
+        words,
+    };
+    for node in table.nodes.iter() {
+        judge.node(node)?;
+    }
+    let start = &table.nodes[table.start];
+    let at = table.start_place;
+    demand(start.location == model.start.location, 20, at)?;
+    let states = &model.start.zone;
+    let held = states.inside_after_reset(model.clocks, 0, &start.zone);
+    demand(held, 21, at)?;
+    Ok(Certificate {
+        value: start.value,
+        whole: table.whole,
+        nodes: table.nodes.len(),
+    })
+}
+
+struct Judge<'a> {
+    model: &'a Model,
+    table: &'a Table,
+    words: &'a [u32],
+}
+
+impl Judge<'_> {
+    fn node(&self, node: &Node) -> Result<(), Refusal> {
+        let location = &self.model.locations[node.location];
+        if location.target {
+            return demand(node.value == self.table.whole, 15, node.value_place);
+        }
+        let waited = self.waited(node, &location.invariant);
+        let mut place = node.value_place + 1;
+        for action in &self.model.actions[location.first..location.end] {
+            let mut reach = waited;
+            reach.meet(&action.guard);
+            reach.tighten(self.model.clocks);
+            if self.words[place] >> 28 == BLOCKED {
+                demand(reach.is_empty(), 16, place)?;
+                place += 1;
+            } else {
+                self.row(node, action, &reach, place)?;
+                place += action.end - action.first;
+            }
+        }
+        Ok(())
+    }
+
+    /// What waiting attains from the node; an empty zone keeps a diagonal that says so.
+    fn waited(&self, node: &Node, invariant: &Zone) -> Zone {
+        let mut zone = node.zone;
+        zone.meet(invariant);
+        zone.tighten(self.model.clocks);
+        zone.delay();
+        zone.meet(invariant);
+        zone
+    }
+
+    /// A row with successors, the first of them at this place.
+    fn row(&self, node: &Node, action: &Action, reach: &Zone, first: usize) -> Result<(), Refusal> {
+        let empty = reach.is_empty();
+        let mut sum = 0;
+        let edges = &self.model.edges[action.first..action.end];
+        for (place, edge) in (first..).zip(edges) {
+            let next = &self.table.nodes[number_of(self.words[place])];
+            demand(next.location == edge.location(), 17, place)?;
+            let held =
+                empty || reach.inside_after_reset(self.model.clocks, edge.resets(), &next.zone);
+            demand(held, 18, place)?;
+            sum += u64::from(edge.weight()) * u64::from(next.value);
+        }
+        let most = u64::from(self.model.denominator) * u64::from(node.value);
+        demand(sum <= most, 19, first)
+    }
+}
