@@ -1,31 +1,134 @@
-//! Prints the figures of the README: the judge against the reading, as a Markdown table. Meant for a release build.
+//! Prints the figures of the README, as Markdown. Meant for a release build.
+//!
+//! `figures`: how long a call takes with the judge, the reading and the plain judge.
+//! `figures --instructions`: how many instructions it needs, where valgrind is there.
+//! `figures --once LINE SIDE N`: runs the call of one line N times and prints nothing; for valgrind.
 
-use outside::figures;
+use std::process::ExitCode;
+
+use outside::comparer::Fault;
+use outside::figures::{self, Time, SIDES};
+use outside::instructions;
+use outside::shapes::{self, Shape, LONGEST};
 
 const ROUNDS: usize = 25;
 
-fn main() {
-    println!("| call | words | judge | reading | ratio | noise |");
-    println!("|---|---:|---:|---:|---:|---:|");
-    for line in figures::lines() {
-        let figure = line.measure(ROUNDS);
-        println!(
-            "| {} | {} | {} | {} | {:.2} | {:.0} % |",
-            line.name,
-            line.words,
-            spelled(figure.ours.middle),
-            spelled(figure.theirs.middle),
-            figure.ratio(),
-            100.0 * figure.ours.noise.max(figure.theirs.noise),
-        );
+fn main() -> ExitCode {
+    let arguments: Vec<String> = std::env::args().skip(1).collect();
+    let arguments: Vec<&str> = arguments.iter().map(String::as_str).collect();
+    let outcome = match arguments[..] {
+        [] => {
+            print_times();
+            Ok(())
+        }
+        ["--instructions"] => print_instructions(),
+        ["--once", line, side, calls] => once(line, side, calls),
+        _ => Err(Fault(format!("unknown settings {arguments:?}"))),
+    };
+    match outcome {
+        Ok(()) => ExitCode::SUCCESS,
+        Err(fault) => {
+            eprintln!("FAILED: {fault}");
+            ExitCode::FAILURE
+        }
     }
-    println!("\nMiddle of {ROUNDS} rounds, taken in turns. Noise: how far the third quarter of the rounds lies above the first.");
 }
 
-/// A time in the unit that suits it.
-fn spelled(nanoseconds: f64) -> String {
-    match nanoseconds {
-        n if n < 1e5 => format!("{:.2} µs", n / 1e3),
-        n => format!("{:.3} ms", n / 1e6),
+fn print_times() {
+    print_head();
+    for shape in shapes::all() {
+        let times = figures::times(&shape, ROUNDS);
+        let cells: Vec<String> = times.iter().map(spelled).collect();
+        let least: Vec<f64> = times.iter().map(|time| time.least).collect();
+        print_row(&shape, &cells, &least);
     }
+    println!(
+        "\nTime of one call: the least of {ROUNDS} rounds and, in brackets, the middle one; the ratios are those of the least. {}.",
+        figures::processor()
+    );
+}
+
+/// Longer inputs than the program takes are left out: what they add is the same for each word.
+fn print_instructions() -> Result<(), Fault> {
+    if !instructions::has_valgrind() {
+        println!("valgrind is not there: no instructions are counted.");
+        return Ok(());
+    }
+    print_head();
+    for (number, shape) in shapes::all().iter().enumerate() {
+        let input = shape.input();
+        if input.words() > LONGEST {
+            continue;
+        }
+        let count = |side| instructions::per_call(number, side, &input);
+        let counts = SIDES
+            .map(count)
+            .into_iter()
+            .collect::<Result<Vec<u64>, Fault>>()?;
+        let cells: Vec<String> = counts.iter().map(|&count| grouped(count)).collect();
+        let numbers: Vec<f64> = counts.iter().map(|&count| count as f64).collect();
+        print_row(shape, &cells, &numbers);
+    }
+    println!(
+        "\nInstructions of one call, by valgrind's callgrind. {}.",
+        figures::processor()
+    );
+    Ok(())
+}
+
+fn once(line: &str, side: &str, calls: &str) -> Result<(), Fault> {
+    let unknown = || {
+        Fault(format!(
+            "--once {line} {side} {calls}: no such line, side or number"
+        ))
+    };
+    let shapes = shapes::all();
+    let number: usize = line.parse().map_err(|_| unknown())?;
+    let shape = shapes.get(number).ok_or_else(unknown)?;
+    let side = figures::side(side).ok_or_else(unknown)?;
+    let calls = calls.parse().map_err(|_| unknown())?;
+    figures::repeat(&shape.input(), &*side, calls);
+    Ok(())
+}
+
+fn print_head() {
+    let [judge, reading, plain] = SIDES;
+    println!("| call | words | {judge} | {reading} | {plain} | {judge} / {reading} | {judge} / {plain} |");
+    println!("|---|---:|---:|---:|---:|---:|---:|");
+}
+
+/// A line with a cell and a number for each side, the judge first; the numbers make the ratios.
+fn print_row(shape: &Shape, cells: &[String], numbers: &[f64]) {
+    let ratio = |other: usize| format!("{:.2}", numbers[0] / numbers[other]);
+    println!(
+        "| {} | {} | {} | {} | {} |",
+        shape.name(),
+        shape.input().words(),
+        cells.join(" | "),
+        ratio(1),
+        ratio(2),
+    );
+}
+
+/// Least and middle, in the unit that suits them.
+fn spelled(time: &Time) -> String {
+    let (unit, digits, name) = match time.least {
+        least if least < 1e5 => (1e3, 2, "µs"),
+        _ => (1e6, 3, "ms"),
+    };
+    let (least, middle) = (time.least / unit, time.middle / unit);
+    format!("{least:.digits$} ({middle:.digits$}) {name}")
+}
+
+/// A number with a comma before every three digits.
+fn grouped(number: u64) -> String {
+    let digits = number.to_string();
+    let mut text = String::new();
+    for (place, digit) in digits.chars().enumerate() {
+        if place > 0 && (digits.len() - place).is_multiple_of(3) {
+            text.push(',');
+        }
+        text.push(digit);
+    }
+    text
 }

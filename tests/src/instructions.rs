@@ -1,0 +1,45 @@
+//! How many instructions a call needs, counted by valgrind's callgrind: unlike times, counts repeat.
+
+use std::process::{Command, Stdio};
+
+use crate::comparer::Fault;
+use crate::shapes::Input;
+
+pub fn has_valgrind() -> bool {
+    let version = Command::new("valgrind")
+        .arg("--version")
+        .stdout(Stdio::null())
+        .stderr(Stdio::null())
+        .status();
+    version.is_ok_and(|status| status.success())
+}
+
+/// Instructions for one call of a side on the line of this number. What a run of the program needs
+/// besides, and what first calls need, is in the run with fewer calls as well, and falls out.
+pub fn per_call(line: usize, side: &str, input: &Input) -> Result<u64, Fault> {
+    let calls = 1 + 20_000 / input.words() as u64;
+    let fewer = of_run(line, side, calls)?;
+    let more = of_run(line, side, 2 * calls)?;
+    Ok((more - fewer) / calls)
+}
+
+/// Instructions of a whole run of this program with so many calls.
+fn of_run(line: usize, side: &str, calls: u64) -> Result<u64, Fault> {
+    let fault = |what: &str| Fault(format!("callgrind, line {line}, {side}: {what}"));
+    let program = std::env::current_exe().map_err(|error| fault(&error.to_string()))?;
+    let output = Command::new("valgrind")
+        .args(["--tool=callgrind", "--callgrind-out-file=/dev/null"])
+        .arg(program)
+        .args(["--once", &line.to_string(), side, &calls.to_string()])
+        .output();
+    let output = output.map_err(|error| fault(&error.to_string()))?;
+    let said = String::from_utf8_lossy(&output.stderr);
+    let collected = said
+        .lines()
+        .find_map(|line| line.split_once("Collected : "));
+    let count = collected.and_then(|(_, count)| count.trim().parse().ok());
+    match output.status.success() {
+        true => count.ok_or_else(|| fault(&said)),
+        false => Err(fault(&said)),
+    }
+}

@@ -1,0 +1,215 @@
+//! The inputs of the figures: by name, with their words, and asked of any side.
+
+use std::hint::black_box;
+
+use crate::random::Random;
+use crate::reading::{Bound, Certificate, Counts, Refusal};
+use crate::sides::Side;
+use crate::{spell, worked};
+
+/// The last word that the program takes has index 16,383.
+pub const LONGEST: usize = 16_384;
+
+/// A line of the figures. A number is one of words.
+#[derive(Clone, Copy)]
+pub enum Shape {
+    Worked,
+    Full { clocks: usize, nodes: usize },
+    LongestFile,
+    LongTable(usize),
+    LongModel(usize),
+    LongZone(usize),
+    LongZones(usize),
+}
+
+/// The lines, in the order in which they are printed.
+pub fn all() -> Vec<Shape> {
+    let full = |(clocks, nodes)| Shape::Full { clocks, nodes };
+    let mut shapes = vec![Shape::Worked];
+    shapes.extend([(1, 64), (2, 64), (3, 64), (4, 64)].map(full));
+    shapes.extend([(1, 1), (1, 8), (4, 1), (4, 8)].map(full));
+    shapes.push(Shape::LongestFile);
+    for words in [10_000, 100_000, 1_000_000] {
+        shapes.extend([
+            Shape::LongTable(words),
+            Shape::LongModel(words),
+            Shape::LongZone(words),
+            Shape::LongZones(words),
+        ]);
+    }
+    shapes
+}
+
+impl Shape {
+    pub fn name(&self) -> String {
+        let name = match self {
+            Shape::Worked => "judge, worked case",
+            Shape::Full { clocks, nodes } => {
+                let plural = |count: usize| if count == 1 { "" } else { "s" };
+                let (many_clocks, many_nodes) = (plural(*clocks), plural(*nodes));
+                return format!(
+                    "judge, full: {clocks} clock{many_clocks}, {nodes} node{many_nodes}"
+                );
+            }
+            Shape::LongestFile => "judge, longest file",
+            Shape::LongTable(_) => "judge",
+            Shape::LongModel(_) => "read a model",
+            Shape::LongZone(_) => "is a zone empty",
+            Shape::LongZones(_) => "one zone inside another",
+        };
+        name.to_string()
+    }
+
+    pub fn input(&self) -> Input {
+        match *self {
+            Shape::Worked => Input::Judging(worked::MODEL.to_vec(), worked::TABLE.to_vec()),
+            Shape::Full { clocks, nodes } => {
+                Input::Judging(full_model(clocks), full_table(clocks, nodes))
+            }
+            Shape::LongestFile => Shape::LongTable(LONGEST - worked::MODEL.len()).input(),
+            Shape::LongTable(words) => Input::Judging(worked::MODEL.to_vec(), long_table(words)),
+            Shape::LongModel(words) => Input::Model(long_model(words)),
+            Shape::LongZone(words) => Input::Zone(bounds(1, words)),
+            Shape::LongZones(words) => Input::Zones(bounds(1, words / 2), bounds(2, words / 2)),
+        }
+    }
+}
+
+/// What a call is given; the zones are over four clocks.
+pub enum Input {
+    Judging(Vec<u32>, Vec<u32>),
+    Model(Vec<u32>),
+    Zone(Vec<u32>),
+    Zones(Vec<u32>, Vec<u32>),
+}
+
+#[derive(Debug, PartialEq)]
+pub enum Answer {
+    Judged(Result<Certificate, Refusal>),
+    Read(Result<Counts, Refusal>),
+    Asked(Result<bool, Refusal>),
+}
+
+impl Answer {
+    pub fn is_refusal(&self) -> bool {
+        match self {
+            Answer::Judged(answer) => answer.is_err(),
+            Answer::Read(answer) => answer.is_err(),
+            Answer::Asked(answer) => answer.is_err(),
+        }
+    }
+}
+
+impl Input {
+    pub fn words(&self) -> usize {
+        match self {
+            Input::Judging(first, second) | Input::Zones(first, second) => {
+                first.len() + second.len()
+            }
+            Input::Model(words) | Input::Zone(words) => words.len(),
+        }
+    }
+
+    /// One call, of which the compiler knows nothing beforehand.
+    pub fn ask(&self, side: &dyn Side) -> Answer {
+        match black_box(self) {
+            Input::Judging(model, table) => Answer::Judged(side.judge(model, table)),
+            Input::Model(words) => Answer::Read(side.read_model(words)),
+            Input::Zone(words) => Answer::Asked(side.zone_empty(4, words)),
+            Input::Zones(first, second) => Answer::Asked(side.zone_inside(4, first, second)),
+        }
+    }
+}
+
+/// Bounds over four clocks that the valuation 0 meets, so that the zone is not empty.
+fn bounds(seed: u64, count: usize) -> Vec<u32> {
+    let mut random = Random::new(seed);
+    (0..count).map(|_| bound_over(&mut random, 4)).collect()
+}
+
+/// A bound that the valuation 0 meets, over clocks 1 to `clocks` and clock 0.
+fn bound_over(random: &mut Random, clocks: usize) -> u32 {
+    let i = random.below(clocks + 1);
+    let j = (i + 1 + random.below(clocks)) % (clocks + 1);
+    let d = 1 + random.below(4095) as i32;
+    spell::bound(&Bound {
+        i,
+        j,
+        d,
+        strict: random.below(2) == 1,
+    })
+}
+
+/// The worked model, with further start bounds up to that many words.
+fn long_model(words: usize) -> Vec<u32> {
+    let mut model = worked::MODEL.to_vec();
+    let mut random = Random::new(3);
+    model.resize_with(words, || bound_over(&mut random, 1));
+    model
+}
+
+/// The worked table, with further bounds at the node of the second location up to that many words.
+/// They are loose, so that the zone still holds what the row attains.
+fn long_table(words: usize) -> Vec<u32> {
+    let mut random = Random::new(4);
+    let loose = (worked::TABLE.len()..words).map(|_| {
+        spell::bound(&Bound {
+            i: 1,
+            j: 0,
+            d: 4 + random.below(4000) as i32,
+            strict: random.below(2) == 1,
+        })
+    });
+    let mut table = worked::TABLE[..7].to_vec();
+    table.extend(loose);
+    table.extend(&worked::TABLE[7..]);
+    table
+}
+
+fn at_most(i: usize, j: usize, d: i32) -> u32 {
+    spell::bound(&Bound {
+        i,
+        j,
+        d,
+        strict: false,
+    })
+}
+
+fn each_at_most(clocks: usize, d: i32) -> impl Iterator<Item = u32> {
+    (1..=clocks).map(move |clock| at_most(clock, 0, d))
+}
+
+/// One location with as many actions and edges as a model can have. The edges reset clocks in
+/// turn.
+fn full_model(clocks: usize) -> Vec<u32> {
+    let mut model = vec![spell::head(clocks, 4), spell::location(false)];
+    model.extend(each_at_most(clocks, 20));
+    for action in 0..32 {
+        let guard = at_most(0, 1 + action % clocks, -(action as i32 % 5));
+        model.extend([spell::ACTION, guard]);
+        let resets = |edge| (action as u32 + edge) & ((1 << clocks) - 1);
+        model.extend((0..4).map(|edge| spell::edge(resets(edge), 0, 1)));
+    }
+    model.push(spell::start(0));
+    model.extend(each_at_most(clocks, 0));
+    model
+}
+
+/// So many nodes, each with 32 rows of 4 successors, the most that a node can have. All have the same
+/// zone, with an upper bound for every clock and every pair of clocks.
+fn full_table(clocks: usize, nodes: usize) -> Vec<u32> {
+    let mut table = vec![spell::table_head(1)];
+    for node in 0..nodes {
+        table.push(spell::node(0));
+        table.extend(each_at_most(clocks, 20));
+        let apart = |i| {
+            let others = (1..=clocks).filter(move |j| *j != i);
+            others.map(move |j| at_most(i, j, 20))
+        };
+        table.extend((1..=clocks).flat_map(apart));
+        table.push(spell::value(1));
+        table.extend((0..32 * 4).map(|edge| spell::successor((node + edge) % nodes)));
+    }
+    table.push(spell::start_node(0));
+    table
+}
