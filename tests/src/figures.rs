@@ -102,3 +102,16 @@ pub fn processor() -> String {
     name.map_or("an unnamed processor", |(_, name)| name)
         .to_string()
 }
+
+#[cfg(test)]
+mod tests {
+    use super::*;
+    use crate::shapes;
+
+    #[test]
+    fn all_sides_accept_every_line_alike() {
+        for shape in shapes::all() {
+            agree(&shape, &shape.input(), &sides());
+        }
+    }
+}

@@ -14,6 +14,11 @@ pub fn has_valgrind() -> bool {
     version.is_ok_and(|status| status.success())
 }
 
+/// Has the C library copy by vectors. For long copies it would take one instruction that repeats itself,
+/// which callgrind counts once for every byte.
+const BY_VECTORS: &str =
+    "glibc.cpu.x86_rep_movsb_threshold=0x7fffffff:glibc.cpu.x86_rep_stosb_threshold=0x7fffffff";
+
 /// Instructions for one call of a side on the line of this number. What a run of the program needs
 /// besides, and what first calls need, is in the run with fewer calls as well, and falls out.
 pub fn per_call(line: usize, side: &str, input: &Input) -> Result<u64, Fault> {
@@ -31,6 +36,7 @@ fn of_run(line: usize, side: &str, calls: u64) -> Result<u64, Fault> {
         .args(["--tool=callgrind", "--callgrind-out-file=/dev/null"])
         .arg(program)
         .args(["--once", &line.to_string(), side, &calls.to_string()])
+        .env("GLIBC_TUNABLES", BY_VECTORS)
         .output();
     let output = output.map_err(|error| fault(&error.to_string()))?;
     let said = String::from_utf8_lossy(&output.stderr);

@@ -60,19 +60,25 @@ pub fn read_model(words: &[u32]) -> Result<Counts, Refusal> {
 
 pub fn zone_empty(clocks: u32, words: &[u32]) -> Result<bool, Refusal> {
     demand((1..=4).contains(&clocks), 31, 0)?;
-    let mut zone = Zone::ALL;
-    zone.read(clocks, words, 32)?;
+    let mut zone = zone_of(clocks, words, 32)?;
     zone.tighten(clocks);
     Ok(zone.is_empty())
 }
 
 pub fn zone_inside(clocks: u32, first: &[u32], second: &[u32]) -> Result<bool, Refusal> {
     demand((1..=4).contains(&clocks), 31, 0)?;
-    let (mut zone, mut other) = (Zone::ALL, Zone::ALL);
-    zone.read(clocks, first, 32)?;
-    other.read(clocks, second, 33)?;
+    let mut zone = zone_of(clocks, first, 32)?;
+    let other = zone_of(clocks, second, 33)?;
     zone.tighten(clocks);
     Ok(zone.is_empty() || zone.inside_after_reset(clocks, 0, &other))
+}
+
+/// The zone of a list of bounds and nothing else, or a refusal with this number.
+fn zone_of(clocks: u32, words: &[u32], number: u32) -> Result<Zone, Refusal> {
+    let mut zone = Zone::ALL;
+    let end = zone.take_bounds((clocks, false), words, 0, number)?;
+    demand(end == words.len(), number, end)?;
+    Ok(zone)
 }
 
 fn demand(met: bool, number: u32, place: usize) -> Result<(), Refusal> {

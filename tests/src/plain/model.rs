@@ -1,7 +1,7 @@
 //! Reading a model: refusals 1 to 6.
 
 use super::few::Few;
-use super::zone::{bound_of, on_one_clock, Zone};
+use super::zone::Zone;
 use super::{demand, Refusal};
 
 const NOTHING: u32 = 0;
@@ -9,18 +9,17 @@ const HEAD: u32 = 1;
 const LOCATION: u32 = 2;
 const ACTION: u32 = 3;
 const EDGE: u32 = 4;
-pub const BOUND: u32 = 5;
 const START: u32 = 6;
 
-/// By the last word that is no bound: a bit for each kind that may follow.
+/// By the last word that is no bound: a bit for each other kind that may follow.
 const FOLLOWS: [u32; 7] = [
     1 << HEAD,
     1 << LOCATION,
-    1 << LOCATION | 1 << ACTION | 1 << BOUND | 1 << START,
-    1 << EDGE | 1 << BOUND,
+    1 << LOCATION | 1 << ACTION | 1 << START,
+    1 << EDGE,
     1 << LOCATION | 1 << ACTION | 1 << EDGE | 1 << START,
     0,
-    1 << BOUND,
+    0,
 ];
 
 pub struct Model {
@@ -95,36 +94,32 @@ impl Model {
     /// Fills in a new model from its words.
     pub fn read(&mut self, words: &[u32]) -> Result<(), Refusal> {
         let mut opener = NOTHING;
-        for (place, &word) in words.iter().enumerate() {
+        let mut place = 0;
+        while place < words.len() {
+            let word = words[place];
             let kind = word >> 28;
             demand(FOLLOWS[opener as usize] >> kind & 1 == 1, 1, place)?;
-            if kind == BOUND {
-                demand(self.add_bound(opener, word), 2, place)?;
-                continue;
-            }
             demand(self.good_fields(word), 2, place)?;
             demand(self.has_room(kind), 3, place)?;
             let action_ends = opener == EDGE && kind != EDGE;
             demand(!action_ends || self.weights_add_up(), 4, place)?;
             self.add(word, place);
+            place = self.take_bounds(kind, words, place + 1)?;
             opener = kind;
         }
         demand(opener == START, 1, words.len())?;
         self.check_whole()
     }
 
-    /// False if it is no good bound here.
-    fn add_bound(&mut self, opener: u32, word: u32) -> bool {
-        let Some((cell, bound)) = bound_of(word, self.clocks) else {
-            return false;
-        };
+    /// The bounds behind a word of this kind, if it may have some; hands back the place behind them.
+    fn take_bounds(&mut self, opener: u32, words: &[u32], place: usize) -> Result<usize, Refusal> {
         let zone = match opener {
             LOCATION => &mut self.locations.newest().invariant,
             ACTION => &mut self.actions.newest().guard,
-            _ => &mut self.start.zone,
+            START => &mut self.start.zone,
+            _ => return Ok(place),
         };
-        zone.lower(cell, bound);
-        opener == START || on_one_clock(word)
+        zone.take_bounds((self.clocks, opener != START), words, place, 2)
     }
 
     fn good_fields(&self, word: u32) -> bool {

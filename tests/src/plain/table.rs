@@ -1,8 +1,8 @@
 //! Reading a table against a model: refusals 11 to 14.
 
 use super::few::Few;
-use super::model::{Model, BOUND};
-use super::zone::{bound_of, Zone};
+use super::model::{Action, Model};
+use super::zone::Zone;
 use super::{demand, Refusal};
 
 const HEAD: u32 = 7;
@@ -11,7 +11,6 @@ const VALUE: u32 = 9;
 pub const BLOCKED: u32 = 10;
 const SUCCESSOR: u32 = 11;
 const START_NODE: u32 = 12;
-const NOTHING: u32 = 16;
 
 pub struct Table {
     /// V.
@@ -33,43 +32,6 @@ pub struct Node {
     pub zone: Zone,
 }
 
-/// What is due at a node: rows for the actions from `action` up to `end`, and first the rest of a
-/// row, `successors` of them.
-struct Due {
-    action: usize,
-    end: usize,
-    successors: usize,
-}
-
-impl Due {
-    const NOTHING: Due = Due {
-        action: 0,
-        end: 0,
-        successors: 0,
-    };
-
-    fn allows(&self, opener: u32, kind: u32) -> bool {
-        match opener {
-            NOTHING => kind == HEAD,
-            HEAD => kind == NODE,
-            NODE => kind == VALUE,
-            START_NODE => false,
-            _ if self.successors > 0 => kind == SUCCESSOR,
-            _ if self.action < self.end => kind == BLOCKED || kind == SUCCESSOR,
-            _ => kind == NODE || kind == START_NODE,
-        }
-    }
-
-    fn successor(&mut self, model: &Model) {
-        if self.successors == 0 {
-            let action = &model.actions[self.action];
-            self.successors = action.end - action.first;
-            self.action += 1;
-        }
-        self.successors -= 1;
-    }
-}
-
 impl Table {
     pub fn new() -> Table {
         Table {
@@ -83,72 +45,72 @@ impl Table {
 
     /// Fills in a new table from its words.
     pub fn read(&mut self, model: &Model, words: &[u32]) -> Result<(), Refusal> {
-        let mut due = Due::NOTHING;
-        let mut opener = NOTHING;
-        for (place, &word) in words.iter().enumerate() {
-            let kind = word >> 28;
-            if kind == BOUND && opener == NODE {
-                demand(self.add_bound(model, word), 12, place)?;
-                continue;
-            }
-            demand(due.allows(opener, kind), 11, place)?;
-            demand(self.good_fields(model, word), 12, place)?;
-            demand(kind != NODE || !self.nodes.is_full(), 13, place)?;
-            self.add(model, &mut due, word, place);
-            opener = kind;
+        self.whole = fields(words, 0, HEAD)?;
+        demand(self.whole != 0, 12, 0)?;
+        let mut place = self.node(model, words, 1)?;
+        while !is_at(words, place, START_NODE) {
+            place = self.node(model, words, place)?;
         }
-        demand(opener == START_NODE, 11, words.len())?;
+        (self.start, self.start_place) = (self.number(words, place, START_NODE)?, place);
+        demand(place + 1 == words.len(), 11, place + 1)?;
         match self.highest < self.nodes.len() {
             true => Ok(()),
             false => Err(self.first_missing(words)),
         }
     }
 
-    fn add_bound(&mut self, model: &Model, word: u32) -> bool {
-        let Some((cell, bound)) = bound_of(word, model.clocks) else {
-            return false;
-        };
-        self.nodes.newest().zone.lower(cell, bound);
-        true
-    }
-
-    fn good_fields(&self, model: &Model, word: u32) -> bool {
-        match word >> 28 {
-            HEAD => word & 0x0FFF_FFFF != 0,
-            NODE => word & 0x00FF_FFFF == 0 && location_of(word) < model.locations.len(),
-            VALUE => word & 0x0FFF_FFFF <= self.whole,
-            BLOCKED => word & 0x0FFF_FFFF == 0,
-            _ => word & 0x0FFF_FFC0 == 0,
+    /// A node with its rows, from a place on; hands back the place behind it.
+    fn node(&mut self, model: &Model, words: &[u32], place: usize) -> Result<usize, Refusal> {
+        let location = fields(words, place, NODE)?;
+        let number = (location >> 24) as usize;
+        let there = location & 0x00FF_FFFF == 0 && number < model.locations.len();
+        demand(there, 12, place)?;
+        demand(!self.nodes.is_full(), 13, place)?;
+        self.nodes.push(Node {
+            location: number,
+            value: 0,
+            value_place: 0,
+            zone: Zone::ALL,
+        });
+        let node = self.nodes.newest();
+        let zone = &mut node.zone;
+        let place = zone.take_bounds((model.clocks, false), words, place + 1, 12)?;
+        (node.value, node.value_place) = (fields(words, place, VALUE)?, place);
+        demand(node.value <= self.whole, 12, place)?;
+        let location = &model.locations[number];
+        let actions = &model.actions[location.first..location.end];
+        match location.target {
+            true => Ok(place + 1),
+            false => self.rows(actions, words, place + 1),
         }
     }
 
-    fn add(&mut self, model: &Model, due: &mut Due, word: u32, place: usize) {
-        match word >> 28 {
-            HEAD => self.whole = word & 0x0FFF_FFFF,
-            NODE => self.nodes.push(Node {
-                location: location_of(word),
-                value: 0,
-                value_place: 0,
-                zone: Zone::ALL,
-            }),
-            VALUE => {
-                let node = self.nodes.newest();
-                (node.value, node.value_place) = (word & 0x0FFF_FFFF, place);
-                let location = &model.locations[node.location];
-                if !location.target {
-                    (due.action, due.end) = (location.first, location.end);
-                }
+    fn rows(
+        &mut self,
+        actions: &[Action],
+        words: &[u32],
+        mut place: usize,
+    ) -> Result<usize, Refusal> {
+        for action in actions {
+            if is_at(words, place, BLOCKED) {
+                demand(fields(words, place, BLOCKED)? == 0, 12, place)?;
+                place += 1;
+                continue;
             }
-            BLOCKED => due.action += 1,
-            SUCCESSOR => {
-                due.successor(model);
-                self.highest = self.highest.max(number_of(word));
-            }
-            _ => {
-                (self.start, self.start_place) = (number_of(word), place);
-                self.highest = self.highest.max(self.start);
+            for _ in action.first..action.end {
+                self.number(words, place, SUCCESSOR)?;
+                place += 1;
             }
         }
+        Ok(place)
+    }
+
+    /// The node number of a successor or of the start.
+    fn number(&mut self, words: &[u32], place: usize, kind: u32) -> Result<usize, Refusal> {
+        let number = fields(words, place, kind)?;
+        demand(number < 64, 12, place)?;
+        self.highest = self.highest.max(number as usize);
+        Ok(number as usize)
     }
 
     /// 14, at the first word whose node is not there.
@@ -162,11 +124,17 @@ impl Table {
     }
 }
 
-fn location_of(word: u32) -> usize {
-    (word >> 24 & 15) as usize
+fn is_at(words: &[u32], place: usize, kind: u32) -> bool {
+    place < words.len() && words[place] >> 28 == kind
 }
 
-/// The node number of a successor or of the start.
+/// The bits below the kind, which must be this one.
+fn fields(words: &[u32], place: usize, kind: u32) -> Result<u32, Refusal> {
+    demand(is_at(words, place, kind), 11, place)?;
+    Ok(words[place] & 0x0FFF_FFFF)
+}
+
+/// The node number of a good successor.
 pub fn number_of(word: u32) -> usize {
     (word & 63) as usize
 }

@@ -9,44 +9,59 @@ type Bound = i32;
 const NONE: Bound = i32::MAX;
 const AT_MOST_0: Bound = 1;
 const SIZE: usize = 5;
+const KIND: u32 = 5;
 
 #[derive(Clone, Copy)]
-pub struct Zone([Bound; SIZE * SIZE]);
+pub struct Zone([[Bound; SIZE]; SIZE]);
 
 impl Zone {
     /// Every valuation: no clock is below 0, and no other bound is there.
     pub const ALL: Zone = Zone::all();
 
     const fn all() -> Zone {
-        let mut bounds = [NONE; SIZE * SIZE];
+        let mut bounds = [[NONE; SIZE]; SIZE];
         let mut clock = 0;
         while clock < SIZE {
-            bounds[clock] = AT_MOST_0;
-            bounds[clock * (SIZE + 1)] = AT_MOST_0;
+            bounds[0][clock] = AT_MOST_0;
+            bounds[clock][clock] = AT_MOST_0;
             clock += 1;
         }
         Zone(bounds)
     }
 
-    /// Adds the bounds of a list, or refuses with this number.
-    pub fn read(&mut self, clocks: u32, words: &[u32], number: u32) -> Result<(), Refusal> {
-        for (place, &word) in words.iter().enumerate() {
-            let Some((cell, bound)) = bound_of(word, clocks) else {
+    /// Adds the bounds that stand from a place on and hands back the place behind them. One that is
+    /// no good bound is refused with this number; where `single`, one of its clocks must be clock 0.
+    pub fn take_bounds(
+        &mut self,
+        (clocks, single): (u32, bool),
+        words: &[u32],
+        mut place: usize,
+        number: u32,
+    ) -> Result<usize, Refusal> {
+        while place < words.len() && words[place] >> 28 == KIND {
+            let word = words[place];
+            let (i, j, shifted) = (word >> 24 & 15, word >> 20 & 15, word & 0x1FFF);
+            let spare = word & 0x0007_E000;
+            let one_clock = i == 0 || j == 0 || !single;
+            if i == j || i > clocks || j > clocks || shifted == 0 || spare != 0 || !one_clock {
                 return Err(Refusal { number, place });
-            };
-            self.lower(cell, bound);
+            }
+            let bound = 2 * (shifted as i32 - 4096) + (1 - (word >> 19 & 1) as i32);
+            self.lower(i as usize, j as usize, bound);
+            place += 1;
         }
-        Ok(())
+        Ok(place)
     }
 
-    pub fn lower(&mut self, cell: usize, bound: Bound) {
-        if bound < self.0[cell] {
-            self.0[cell] = bound;
+    fn lower(&mut self, i: usize, j: usize, bound: Bound) {
+        if bound < self.0[i][j] {
+            self.0[i][j] = bound;
         }
     }
 
     pub fn meet(&mut self, other: &Zone) {
-        for (bound, &other) in self.0.iter_mut().zip(&other.0) {
+        let bounds = self.0.as_flattened_mut().iter_mut();
+        for (bound, &other) in bounds.zip(other.0.as_flattened()) {
             *bound = other.min(*bound);
         }
     }
@@ -55,32 +70,28 @@ impl Zone {
     pub fn tighten(&mut self, clocks: u32) {
         let size = clocks as usize + 1;
         for via in 0..size {
-            let through = self.row(via);
-            for i in 0..size {
-                let first = self.0[i * SIZE + via];
-                if first == NONE {
+            let second = self.0[via];
+            for (i, row) in self.0.iter_mut().enumerate().take(size) {
+                let first = row[via];
+                if first == NONE || i == via {
                     continue;
                 }
-                for (j, &second) in through.iter().enumerate().take(size) {
-                    self.lower(i * SIZE + j, sum(first, second));
+                for (bound, &second) in row.iter_mut().zip(&second).take(size) {
+                    *bound = sum(first, second).min(*bound);
                 }
             }
         }
     }
 
-    fn row(&self, clock: usize) -> [Bound; SIZE] {
-        std::array::from_fn(|j| self.0[clock * SIZE + j])
-    }
-
     /// Of a tightened zone.
     pub fn is_empty(&self) -> bool {
-        (0..SIZE).any(|clock| self.0[clock * (SIZE + 1)] < AT_MOST_0)
+        (0..SIZE).any(|clock| self.0[clock][clock] < AT_MOST_0)
     }
 
     /// Of a tightened zone: the bounds above single clocks go.
     pub fn delay(&mut self) {
-        for clock in 1..SIZE {
-            self.0[clock * SIZE] = NONE;
+        for row in &mut self.0[1..] {
+            row[0] = NONE;
         }
     }
 
@@ -88,8 +99,8 @@ impl Zone {
     /// invariant bounds single clocks only.
     pub fn land(&mut self, invariant: &Zone, mask: u32) {
         for (clock, source) in sources(mask).into_iter().enumerate().skip(1) {
-            self.lower(source * SIZE, invariant.0[clock * SIZE]);
-            self.lower(source, invariant.0[clock]);
+            self.lower(source, 0, invariant.0[clock][0]);
+            self.lower(0, source, invariant.0[0][clock]);
         }
     }
 
@@ -98,9 +109,10 @@ impl Zone {
     pub fn inside_after_reset(&self, clocks: u32, mask: u32, other: &Zone) -> bool {
         let size = clocks as usize + 1;
         let sources = sources(mask);
-        for i in 0..size {
-            for j in 0..size {
-                if self.0[sources[i] * SIZE + sources[j]] > other.0[i * SIZE + j] {
+        for (&i, others) in sources.iter().zip(&other.0).take(size) {
+            let row = &self.0[i];
+            for (&j, &other) in sources.iter().zip(others).take(size) {
+                if row[j] > other {
                     return false;
                 }
             }
@@ -113,31 +125,19 @@ impl Zone {
 /// clock 1).
 fn sources(mask: u32) -> [usize; SIZE] {
     std::array::from_fn(|clock| {
-        let masked = mask << 1 >> clock & 1;
-        clock * (1 - masked as usize)
+        let masked = mask << 1 >> clock & 1 == 1;
+        if masked {
+            0
+        } else {
+            clock
+        }
     })
 }
 
-/// Strict if one of the two is.
+/// The sum of two bounds, the first of which is there; strict if one of them is.
 fn sum(first: Bound, second: Bound) -> Bound {
     if second == NONE {
         return NONE;
     }
-    (first & !1) + (second & !1) + (first & second & 1)
-}
-
-/// The cell of a bound word and its bound; none if it is no good bound over these clocks.
-pub fn bound_of(word: u32, clocks: u32) -> Option<(usize, Bound)> {
-    let (i, j, shifted) = (word >> 24 & 15, word >> 20 & 15, word & 0x1FFF);
-    let kind_and_spare = word & 0xF007_E000;
-    if kind_and_spare != 0x5000_0000 || i == j || i > clocks || j > clocks || shifted == 0 {
-        return None;
-    }
-    let bound = 2 * (shifted as i32 - 4096) + (1 - (word >> 19 & 1) as i32);
-    Some((i as usize * SIZE + j as usize, bound))
-}
-
-/// Whether a bound word has exactly one clock that is clock 0.
-pub fn on_one_clock(word: u32) -> bool {
-    (word >> 24 & 15 == 0) != (word >> 20 & 15 == 0)
+    first + second - ((first | second) & 1)
 }
