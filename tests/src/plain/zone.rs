@@ -42,7 +42,7 @@ impl Zone {
             let word = words[place];
             let (i, j, shifted) = (word >> 24 & 15, word >> 20 & 15, word & 0x1FFF);
             let spare = word & 0x0007_E000;
-            let one_clock = i == 0 || j == 0 || !single;
+            let one_clock = !single || i == 0 || j == 0;
             if i == j || i > clocks || j > clocks || shifted == 0 || spare != 0 || !one_clock {
                 return Err(Refusal { number, place });
             }
