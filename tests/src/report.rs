@@ -126,7 +126,7 @@ pub fn lacks(tally: &Tally, evidence: &Evidence) -> Vec<String> {
         (
             agreed(tally, PLAIN),
             tally.total().max(1),
-            "of the plain judge",
+            "comparisons of the plain judge",
         ),
         (tally.of_call("program"), 5000, "program runs"),
         (evidence.played, 1000, "tables played"),
