@@ -1,3 +1,4 @@
+-- The definitions that the contracts of `judge` rest on: document 01's on schedulers and acceptance, then the algorithms.
 pub mod Choices
 pub mod Schedulers
 pub mod Acceptance

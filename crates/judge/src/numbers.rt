@@ -1,3 +1,4 @@
+// A verdict in document 01's numbers.
 ghost use mathlib.Core.Path.{_≡_};
 ghost use Rattle.judge.specs.Judging.{verdictAnswer};
 ghost use Rattle.zone.specs.Checks.{refused};

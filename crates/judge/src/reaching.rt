@@ -1,3 +1,4 @@
+// The zones of a row's reach: what waiting attains, and what an action attains of it before its resets.
 ghost use mathlib.Core.Path.{_≡_};
 ghost use Prim.Native.Nat.{_^_};
 ghost use Rattle.zone.specs.Squares.{Small};

@@ -1,3 +1,4 @@
+// The call that judges a table against a model.
 ghost use mathlib.Core.Path.{_≡_};
 ghost use Rattle.model.specs.Reading.{modelAnswer};
 ghost use Rattle.table.specs.Reading.{tableAnswer};

@@ -1,3 +1,4 @@
+// The walk over nodes, rows and successors, up to the first of the checks 15 to 19 that fails.
 ghost use mathlib.Core.Path.{_≡_};
 ghost use Prim.Native.Nat.{_*_, _<_, _^_};
 ghost use Rattle.model.specs.Fields.{weightOf};

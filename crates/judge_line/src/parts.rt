@@ -1,3 +1,4 @@
+// Which of a file's words are the table.
 ghost use mathlib.Core.Path.{_≡_};
 ghost use Rattle.judge_line.specs.Bytes.{tablePart};
 use model::kinds;

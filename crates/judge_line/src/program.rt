@@ -1,3 +1,4 @@
+// From the bytes of a file to the line that the program prints.
 ghost use lib.ListN.{take};
 ghost use Rattle.io.specs.Counts.{Counts};
 ghost use Rattle.judge_line.specs.Program.{Prints};

@@ -1,3 +1,4 @@
+// A line of text, by value, and the line of an acceptance or a refusal.
 ghost use mathlib.Core.Path.{_≡_};
 ghost use Prim.Native.Nat.{_+_, _≤_};
 ghost use mathlib.Core.List.{_++_};

@@ -1,3 +1,4 @@
+// The words of a file's bytes, highest byte first.
 ghost use mathlib.Core.Path.{_≡_};
 ghost use Prim.Native.Nat.{_+_, _/_, _<_, _≤_};
 ghost use lib.ListN.{length, take};

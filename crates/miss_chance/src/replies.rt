@@ -1,3 +1,4 @@
+// Each answer as the four words that a C or Rust caller gets.
 ghost use mathlib.Core.Path.{_≡_};
 ghost use Prim.Native.Nat.{_≤_};
 ghost use mathlib.Core.List.{_∷_, _++_};

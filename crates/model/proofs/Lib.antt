@@ -1,3 +1,4 @@
+-- The laws of `model`: words, the pass over them, the index and the answer; proofs of functions stand in folders of their own.
 pub mod FieldLaws
 pub mod TableRule
 pub mod KindLaws

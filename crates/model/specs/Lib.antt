@@ -1,3 +1,4 @@
+-- The definitions that the contracts of `model` rest on: document 01's, then the algorithms, then what the index says of a model.
 pub mod Kinds
 pub mod TableKinds
 pub mod Before

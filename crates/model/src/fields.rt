@@ -1,3 +1,4 @@
+// The fields of a model's words, and whether they are in their ranges.
 ghost use mathlib.Core.Path.{_≡_};
 ghost use Prim.Native.Nat.{_<_, _≤_, _^_, _/_};
 ghost use lib.Dec.{eqb};

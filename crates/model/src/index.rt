@@ -1,3 +1,4 @@
+// The parts of a model by number: which location has which actions, and which action which edges.
 ghost use mathlib.Core.Path.{_≡_};
 ghost use Prim.Native.Nat.{_≤_};
 ghost use lib.ListN.{take};

@@ -1,3 +1,4 @@
+// The call that reads a model, with refusals 1 to 6, and what judging needs of an accepted one.
 ghost use mathlib.Core.Path.{_≡_};
 ghost use Rattle.model.specs.Reading.{ReadModel, modelAnswer};
 ghost use Rattle.model.specs.Index.{wholeAnswer, answerOf};

@@ -1,3 +1,4 @@
+// One pass over a model's words: the first fault, or the index and the zones of the whole file.
 ghost use mathlib.Core.Path.{_≡_};
 ghost use Rattle.model.specs.Index.{scannedAt, scanned};
 use crate::fields;

@@ -1,3 +1,4 @@
+// What the words of a model read so far come to, and the first check that the next word fails.
 ghost use mathlib.Core.Path.{_≡_};
 ghost use Rattle.zone.specs.Words.{kind};
 ghost use Rattle.model.specs.Grammar.{follows?};

@@ -1,3 +1,4 @@
+-- The definitions that the contracts of `table` rest on: document 01's, then the algorithms, then what is kept of a table.
 pub mod Fields
 pub mod Table
 pub mod Reading

@@ -1,3 +1,4 @@
+// The fields of a table's words, and whether they are in their ranges.
 ghost use mathlib.Core.Path.{_≡_};
 ghost use Prim.Native.Nat.{_<_, _^_};
 ghost use Rattle.table.specs.Fields.{wholeOf, tableHeadFields?, locationOf, nodeFields?, valueOf, valueFields?, blockedFields?};

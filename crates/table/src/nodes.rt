@@ -1,3 +1,4 @@
+// What is kept of a node.
 ghost use mathlib.Core.Path.{_≡_};
 ghost use Rattle.table.specs.Index.{entryOf};
 use crate::fields;

@@ -1,3 +1,4 @@
+// Reading a table against a model: refusals 11 to 14, and what judging needs of a table whose words are good.
 ghost use mathlib.Core.Path.{_≡_};
 ghost use Rattle.table.specs.Scan.{IndexFits};
 ghost use Rattle.table.specs.Index.{scanned, numbersAnswer, answerOf, readOf};

@@ -1,3 +1,4 @@
+// One pass over a table's words: the first fault, or the nodes and their zones.
 ghost use mathlib.Core.Path.{_≡_};
 ghost use Rattle.table.specs.Scan.{IndexFits};
 ghost use Rattle.table.specs.Index.{scannedAt, scanned};

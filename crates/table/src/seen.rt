@@ -1,3 +1,4 @@
+// What the words of a table read so far come to, and the first check that the next word fails.
 ghost use mathlib.Core.Path.{_≡_};
 ghost use mathlib.Core.Bool.{false, cond};
 ghost use Prim.Native.Nat.{_<_, _≤_};

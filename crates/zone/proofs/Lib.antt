@@ -1,3 +1,4 @@
+-- The laws of `zone`, with the theory of zones and document 01's cases on them; proofs of functions stand in folders of their own.
 pub mod Bools
 pub mod Integers
 pub mod Machine

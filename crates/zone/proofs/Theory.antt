@@ -1,3 +1,4 @@
+-- The theory of zones as tables of bounds: of bounds it knows `BoundLaws` alone, and none of these modules uses a later one.
 pub mod BoundLaws
 pub mod Tables
 pub mod Meaning

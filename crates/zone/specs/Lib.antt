@@ -1,3 +1,4 @@
+-- The definitions that the contracts of `zone` rest on: document 01's on zones and the two questions, then the algorithms.
 pub mod Scale
 pub mod Moves
 pub mod Words

@@ -1,3 +1,4 @@
+// A bound of the difference of two clocks, by value: the tighter of two, their sum, and whether one is negative.
 ghost use mathlib.Core.Path.{_≡_};
 ghost use Prim.Native.Nat.{_<_, _^_};
 ghost use lib.IntN.{_-ℤ_};

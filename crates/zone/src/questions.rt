@@ -1,3 +1,4 @@
+// The two questions about zones, with refusals 31 to 33.
 ghost use mathlib.Core.Path.{_≡_};
 ghost use Prim.Native.Nat.{_≤_};
 ghost use Rattle.zone.specs.Reading.{readZone};

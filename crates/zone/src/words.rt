@@ -1,3 +1,4 @@
+// The fields of a bound word, and where its bound stands in a zone.
 ghost use mathlib.Core.Path.{_≡_};
 ghost use Rattle.zone.specs.Words.{kind, boundOf, boundFields?, goodBound?};
 ghost use Prim.Native.Nat.{_+_, _*_};

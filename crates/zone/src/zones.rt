@@ -1,3 +1,4 @@
+// Zones as square tables of bounds, by value: meet, tighten, delay, reset, and whether one is empty or lies inside another.
 ghost use mathlib.Core.Path.{_≡_};
 ghost use Prim.Native.Nat.{_<_, _^_};
 ghost use Rattle.zone.specs.Moves.{masked?};

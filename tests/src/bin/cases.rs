@@ -1,4 +1,4 @@
-//! Asks the judge under test and the independent reading the cases of `tests/cases`.
+//! Asks the judge under test, the independent reading and the plain judge the cases of `tests/cases`.
 //!
 //! `cases [--program PATH]`: exit code 0 if every answer is the stored one and no case is lacking.
 //! `cases --words`: prints every case with all its words, and asks nothing.

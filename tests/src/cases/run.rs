@@ -1,11 +1,11 @@
-//! Asks the judge under test and the independent reading every case, and the program where the case is
-//! a whole file.
+//! Asks the judge under test, the independent reading and the plain judge every case, and the program
+//! where the case is a whole file.
 
 use std::collections::BTreeMap;
 use std::fmt::Write;
 
 use super::Case;
-use crate::sides::{Reading, Side};
+use crate::sides::{Plain, Reading, Side};
 use crate::spell;
 
 /// How many cases there were when they became text, and how many of them are whole files. A number
@@ -39,7 +39,11 @@ impl Outcome {
     fn ask(&mut self, case: &Case, under_test: &dyn Side) {
         *self.counts.entry(case.call.name()).or_default() += 1;
         let expected = case.answer.to_string();
-        for (who, side) in [("library", under_test), ("reading", &Reading)] {
+        for (who, side) in [
+            ("library", under_test),
+            ("reading", &Reading),
+            ("plain judge", &Plain),
+        ] {
             self.hold(case, who, &expected, &case.call.asked(side).to_string());
         }
         let Some(file) = case.call.whole_file() else {
@@ -48,7 +52,11 @@ impl Outcome {
         *self.counts.entry("program").or_default() += 1;
         let expected = format!("{}\n", case.call.of_whole_file(case.answer));
         let bytes = spell::bytes(&file);
-        for (who, side) in [("program", under_test), ("reading of the file", &Reading)] {
+        for (who, side) in [
+            ("program", under_test),
+            ("reading of the file", &Reading),
+            ("plain judge of the file", &Plain),
+        ] {
             self.hold(case, who, &expected, &side.program(&bytes));
         }
     }
@@ -122,7 +130,7 @@ mod tests {
     fn a_wrong_answer_is_reported() {
         let text = "a | zone_empty(1, 51000FFF) | EMPTY\nb | zone_empty(1, none) | EMPTY\n";
         let found = differences("a.txt", text, &mut Named::new());
-        assert_eq!(found.len(), 2, "{found:?}"); // the library's answer, and the reading's
+        assert_eq!(found.len(), 3, "{found:?}"); // the library's answer, the reading's, the plain judge's
         assert!(found.iter().all(|one| one.starts_with("a.txt:2: b\n")));
         assert!(found[0].contains("expected \"EMPTY\", the library says \"NOT EMPTY\""));
     }
@@ -141,7 +149,7 @@ mod tests {
             .lines()
             .position(|line| line.contains("REFUSED 20 "));
         let place = format!("a:{}: ", line.map_or(0, |line| line + 1));
-        assert_eq!(found.len(), 4, "{found:?}"); // by the calls and by the file, of either side
+        assert_eq!(found.len(), 6, "{found:?}"); // by the calls and by the file, of each side
         assert!(found.iter().all(|one| one.starts_with(&place)), "{found:?}");
         assert!(found[0].contains("REFUSED 20") && found[0].contains("REFUSED 21"));
     }

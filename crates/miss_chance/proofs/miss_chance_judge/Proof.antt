@@ -1,3 +1,4 @@
+-- Proof of `miss_chance_judge`: fewer than four words stay as they are, else the first four become the verdict of `judge`.
 use borrow.Author.Needs.{needs}
 use Rattle.miss_chance.proofs.ReplyLaws.{not-written, written}
 use Rattle.miss_chance.proofs.miss_chance_judge.Statement.{statement}

@@ -1,3 +1,4 @@
+-- Proof of `miss_chance_read_model`: fewer than four words stay as they are, else the first four become the answer of `read_model`.
 use borrow.Author.Needs.{needs}
 use Rattle.miss_chance.proofs.ReplyLaws.{not-written, written}
 use Rattle.miss_chance.proofs.miss_chance_read_model.Statement.{statement}

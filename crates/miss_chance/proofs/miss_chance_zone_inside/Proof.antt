@@ -1,3 +1,4 @@
+-- Proof of `miss_chance_zone_inside`: fewer than four words stay as they are, else the first four become the answer of `zone_inside`.
 use borrow.Author.Needs.{needs}
 use Rattle.miss_chance.proofs.ReplyLaws.{not-written, written}
 use Rattle.miss_chance.proofs.miss_chance_zone_inside.Statement.{statement}

@@ -1,3 +1,4 @@
+-- Proof of `in_numbers`: by the 18 cases of the verdict, each with the number and the values of the definition.
 use mathlib.Core.Path.{_∙_}
 use borrow.Author.Needs.{needs}
 use Rattle.judge.specs.Judging.{verdictAnswer}

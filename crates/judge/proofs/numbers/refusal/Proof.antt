@@ -1,3 +1,4 @@
+-- Proof of `refusal`: by definition a refusal in numbers is its number, its place and a certificate of zeros.
 use mathlib.Core.Path.{refl}
 use Rattle.judge.specs.Numbers.{numbered}
 use Rattle.judge.proofs.numbers.refusal.Statement.{statement}

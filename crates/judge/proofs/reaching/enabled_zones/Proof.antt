@@ -1,3 +1,4 @@
+-- Proof of `enabled_zones`: the zones of actions below a are done, and that of a is `zone` met with the landings of its edges from e on.
 use Prim.Native.Nat.{_+_, _-_, _≤_}
 use mathlib.Core.Path.{_≡_, refl, sym, _∙_}
 use native.Mathlib.Omega.{arith}

@@ -1,3 +1,4 @@
+-- Proof of `reach_of`: constants below 2^17 leave room to tighten, and the two calls one after the other are the definition.
 use mathlib.Core.Path.{ap, _∙_}
 use native.Mathlib.Omega.{arith}
 use borrow.Author.Needs.{needs}

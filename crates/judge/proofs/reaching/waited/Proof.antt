@@ -1,3 +1,4 @@
+-- Proof of `waited`: constants below 2^12 leave room to tighten, and the four calls one after the other are the definition.
 use mathlib.Core.Path.{ap, _∙_}
 use native.Mathlib.Omega.{arith}
 use borrow.Author.Needs.{needs}

@@ -1,3 +1,4 @@
+-- Proof of `judge`: each return is document 01's answer by what its parts decide; exactness and the bound on schedulers follow.
 use Prim.Native.Nat.{ℕ, _<_}
 use mathlib.Core.Path.{_≡_, sym, ap, subst, _∙_}
 use mathlib.Core.List.{List, [], _∷_}

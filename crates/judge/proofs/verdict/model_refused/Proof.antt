@@ -1,3 +1,4 @@
+-- Proof of `model_refused`: by the seven cases of the answer: six keep number and place, and an acceptance is no refusal.
 use mathlib.Core.Path.{refl, ap}
 use borrow.Author.Needs.{needs}
 use Rattle.model.specs.Reading.{modelAnswer}

@@ -1,3 +1,4 @@
+-- Proof of `node_refused`: by the six cases of the finding: five keep number and place, and `None` is no refusal.
 use mathlib.Core.Path.{refl}
 use borrow.Author.Needs.{needs}
 use Rattle.judge.specs.Deciding.{findingAnswer}

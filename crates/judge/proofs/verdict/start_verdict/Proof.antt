@@ -1,3 +1,4 @@
+-- Proof of `start_verdict`: by the two tests of the definition: of the location, and whether the start zone lies inside.
 use borrow.Author.Needs.{needs}
 use borrow.Author.Tests.{eq-eqb, ne-eqb}
 use Rattle.judge.specs.Deciding.{startVerdict}

@@ -1,3 +1,4 @@
+-- Proof of `words_refused`: by the five cases of the answer: four keep number and place, and `Good` is no refusal.
 use mathlib.Core.Path.{refl}
 use borrow.Author.Needs.{needs}
 use Rattle.table.specs.Reading.{tableAnswer}

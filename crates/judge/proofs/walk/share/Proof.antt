@@ -1,3 +1,4 @@
+-- Proof of `share`: a weight below 2^16 times a value below 2^32 is below 2^48, so the product does not overflow.
 use Prim.Native.Nat.{_*_, _<_, _^_}
 use mathlib.Core.Path.{ap}
 use native.Mathlib.Omega.{arith}

@@ -1,3 +1,4 @@
+-- Proof of `successor`: by the definition's tests: of the location, whether the reach is empty, and whether its reset lies inside.
 use mathlib.Core.Path.{_≡_, _∙_}
 use mathlib.Core.Bool.{true}
 use lib.Dec.{eqb}

@@ -1,3 +1,4 @@
+-- Proof of `walk`: before each node, row and successor nothing was found, and judging the rest gives what the whole walk gives.
 use Prim.Native.Nat.{_<_, _-_, _^_}
 use mathlib.Core.Path.{_≡_, refl, sym, _∙_}
 use mathlib.Core.Logic.{⊎-elim}

@@ -1,3 +1,4 @@
+-- Proof of `table_part`: the table among all of the words is the table among those from word `at` on.
 use Prim.Native.Nat.{_≤_, _-_}
 use mathlib.Core.Path.{_≡_, sym, _∙_}
 use native.Mathlib.Omega.{arith}

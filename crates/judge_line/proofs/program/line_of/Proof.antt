@@ -1,3 +1,4 @@
+-- Proof of `line_of`: 42 and 41 by their tests; else the words are split into model and table, and the verdict is the answer.
 use Prim.Native.Nat.{ℕ, _/_}
 use mathlib.Core.List.{List}
 use native.Mathlib.Omega.{arith}

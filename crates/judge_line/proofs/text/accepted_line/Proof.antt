@@ -1,4 +1,4 @@
--- `accepted_line`: its seven parts, one after the other, are the line of an acceptance, and have room in it.
+-- Proof of `accepted_line`: its seven parts, one after the other, are the line of an acceptance, and have room in it.
 use borrow.Author.Needs.{needs}
 use Rattle.judge_line.proofs.Lines.{accepted-text}
 use Rattle.judge_line.proofs.text.accepted_line.Statement.{statement}

@@ -1,4 +1,4 @@
--- `refused_line`: its five parts, one after the other, are the line of a refusal, and have room in it.
+-- Proof of `refused_line`: its five parts, one after the other, are the line of a refusal, and have room in it.
 use borrow.Author.Needs.{needs}
 use Rattle.judge_line.proofs.Lines.{refused-text}
 use Rattle.judge_line.proofs.text.refused_line.Statement.{statement}

@@ -1,3 +1,4 @@
+-- Proof of `to_words`: after k turns the first k cells are the first k words of the bytes.
 use Prim.Native.Nat.{ℕ, _≤_, _-_, _/_}
 use mathlib.Core.Path.{_≡_, sym, ap, _∙_}
 use native.Mathlib.Omega.{arith}

@@ -1,3 +1,4 @@
+-- Proof of `word_at`: the four bytes are below 256, so no step overflows and the word is that of the definition.
 use borrow.Author.Needs.{needs}
 use Rattle.judge_line.specs.Filling.{wordAt}
 use Rattle.judge_line.proofs.words.word_at.Statement.{statement}

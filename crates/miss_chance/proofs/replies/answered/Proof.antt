@@ -1,3 +1,4 @@
+-- Proof of `answered`: as a number, true is 1 and false is 0.
 use borrow.Author.Needs.{needs}
 use Rattle.miss_chance.proofs.ReplyLaws.{yes-written}
 use Rattle.miss_chance.proofs.replies.answered.Statement.{statement}

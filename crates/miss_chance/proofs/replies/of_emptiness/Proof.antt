@@ -1,3 +1,4 @@
+-- Proof of `of_emptiness`: by the four cases of the answer, each with the four words of the definition.
 use borrow.Author.Needs.{needs}
 use Rattle.zone.specs.Questions.{emptinessAnswer}
 use Rattle.miss_chance.proofs.replies.of_emptiness.Statement.{statement}

@@ -1,3 +1,4 @@
+-- Proof of `of_inclusion`: by the five cases of the answer, each with the four words of the definition.
 use borrow.Author.Needs.{needs}
 use Rattle.zone.specs.Questions.{inclusionAnswer}
 use Rattle.miss_chance.proofs.replies.of_inclusion.Statement.{statement}

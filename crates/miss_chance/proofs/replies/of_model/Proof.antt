@@ -1,3 +1,4 @@
+-- Proof of `of_model`: by the seven cases of the answer, each with the four words of the definition.
 use borrow.Author.Needs.{needs}
 use Rattle.model.specs.Reading.{modelAnswer}
 use Rattle.miss_chance.proofs.replies.of_model.Statement.{statement}

@@ -1,3 +1,4 @@
+-- Proof of `put`: four writes one after the other leave the four words of the reply, and behind them what was there.
 use borrow.Author.Needs.{needs}
 use native.Mathlib.Omega.{arith}
 use lib.ListN.{length-set}

@@ -1,3 +1,4 @@
+-- Proof of `edge_fields`: the calls give the weight, the mask and whether the mask fits the clocks, as the definition has them.
 use borrow.Author.Needs.{needs}
 use Rattle.model.proofs.fields.edge_fields.Statement.{statement}
 use Rattle.model.proofs.fields.edge_fields.Tie as tie

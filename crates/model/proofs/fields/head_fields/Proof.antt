@@ -1,3 +1,4 @@
+-- Proof of `head_fields`: the calls give the clocks, whether they are in their range, and the denominator, as the definition has them.
 use borrow.Author.Needs.{needs}
 use Rattle.model.proofs.fields.head_fields.Statement.{statement}
 use Rattle.model.proofs.fields.head_fields.Tie as tie

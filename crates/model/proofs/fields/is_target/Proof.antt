@@ -1,3 +1,4 @@
+-- Proof of `is_target`: the remainder by 2 is the word's bit 0.
 use Rattle.model.proofs.FieldLaws.{lowest}
 use Rattle.model.proofs.fields.is_target.Statement.{statement}
 use Rattle.model.proofs.fields.is_target.Tie as tie

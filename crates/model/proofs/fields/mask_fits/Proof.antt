@@ -1,3 +1,4 @@
+-- Proof of `mask_fits`: a case for each number of clocks from 0 to 4; for 0 the definition divides the mask by 1.
 use mathlib.Core.Path.{_≡_}
 use native.Mathlib.Omega.{arith}
 use native.Mathlib.Nat.{div-one}

@@ -1,3 +1,4 @@
+-- Proof of `one_zero`: the two calls give the clocks that the definition tests.
 use borrow.Author.Needs.{needs}
 use Rattle.zone.specs.Words.{boundOf}
 use Rattle.model.proofs.fields.one_zero.Statement.{statement}

@@ -1,3 +1,4 @@
+-- Proof of `start_fields`: the call gives the start location that the definition tests.
 use borrow.Author.Needs.{needs}
 use Rattle.model.proofs.fields.start_fields.Statement.{statement}
 use Rattle.model.proofs.fields.start_fields.Tie as tie

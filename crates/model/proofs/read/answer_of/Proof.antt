@@ -1,3 +1,4 @@
+-- Proof of `answer_of`: by the five cases of the fault, each as in the definition.
 use borrow.Author.Needs.{needs}
 use Rattle.model.specs.Index.{answerOf}
 use Rattle.model.proofs.read.answer_of.Statement.{statement}

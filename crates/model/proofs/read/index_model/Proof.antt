@@ -1,3 +1,4 @@
+-- Proof of `index_model`: what the pass leaves is within limits, its zones are small enough to tighten, and it decides the answer.
 use Prim.Native.Nat.{_<_}
 use mathlib.Core.Path.{ap, _∙_}
 use native.Mathlib.Omega.{arith}

@@ -1,3 +1,4 @@
+-- Proof of `whole_answer`: by cases: an edge to a missing location, else an empty start zone, else the counts.
 use borrow.Author.Needs.{needs}
 use Rattle.model.specs.Index.{wholeAnswer}
 use Rattle.model.proofs.read.whole_answer.Statement.{statement}

@@ -1,3 +1,4 @@
+-- Proof of `head_fields`: the call gives V, which the definition asks to be at least 1.
 use borrow.Author.Needs.{needs}
 use Rattle.table.proofs.fields.head_fields.Statement.{statement}
 use Rattle.table.proofs.fields.head_fields.Tie as tie

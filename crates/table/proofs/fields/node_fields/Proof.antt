@@ -1,3 +1,4 @@
+-- Proof of `node_fields`: the remainder by 2^24 is the word's bits 23 to 0, and the call gives the location.
 use borrow.Author.Needs.{needs}
 use Rattle.model.proofs.FieldLaws.{lowest}
 use Rattle.table.proofs.fields.node_fields.Statement.{statement}

@@ -1,3 +1,4 @@
+-- Proof of `value_fields`: the call gives the value, which the definition asks to be at most V.
 use borrow.Author.Needs.{needs}
 use Rattle.table.proofs.fields.value_fields.Statement.{statement}
 use Rattle.table.proofs.fields.value_fields.Tie as tie

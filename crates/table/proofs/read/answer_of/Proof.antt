@@ -1,3 +1,4 @@
+-- Proof of `answer_of`: by the four cases of the fault; where there is none, the call gives the answer of the whole file.
 use borrow.Author.Needs.{needs}
 use Rattle.table.specs.Index.{answerOf}
 use Rattle.table.proofs.read.answer_of.Statement.{statement}

@@ -1,3 +1,4 @@
+-- Proof of `index_table`: the calls come to `readOf` of the pass, which decides 11 to 14 and keeps what judging needs (`read-for`).
 use borrow.Author.Needs.{needs}
 use Rattle.table.proofs.Reading.{returned}
 use Rattle.table.proofs.read.index_table.Statement.{statement}

@@ -1,3 +1,4 @@
+-- Proof of `numbers_answer`: the answer for all of the words is the answer for those from word `at` on.
 use Prim.Native.Nat.{_≤_, _-_}
 use mathlib.Core.Path.{_≡_, refl, sym, _∙_}
 use native.Mathlib.Omega.{arith}

@@ -1,3 +1,4 @@
+-- Proof of `scan`: with `current` at slot n, the pass from word `at` on gives what the pass over all words gives; the limits hold.
 use Prim.Native.Nat.{ℕ, _+_, _-_, _≤_, _<_}
 use mathlib.Core.Path.{_≡_, refl, sym, ap, _∙_}
 use mathlib.Core.Bool.{false}

@@ -1,3 +1,4 @@
+-- Proof of `read_zone`: reading on from word `at` gives what reading all words gives, and a good bound's cell is in the table.
 use Prim.Native.Nat.{ℕ, _≤_, _<_, _-_}
 use mathlib.Core.Path.{_≡_, sym, ap, _∙_}
 use mathlib.Core.Bool.{true}

@@ -1,3 +1,4 @@
+-- Proof of `zone_empty`: the tests before each return select its case of `decideEmpty`, which answers as document 01 says.
 use mathlib.Core.Path.{_≡_, sym, _∙_}
 use mathlib.Core.Bool.{true}
 use borrow.Author.Needs.{needs}

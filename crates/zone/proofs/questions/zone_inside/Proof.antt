@@ -1,3 +1,4 @@
+-- Proof of `zone_inside`: the tests before each return select its case of `decideInside`, which answers as document 01 says.
 use mathlib.Core.Path.{_≡_, sym, _∙_}
 use mathlib.Core.Bool.{true}
 use borrow.Author.Needs.{needs}

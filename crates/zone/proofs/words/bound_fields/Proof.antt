@@ -1,3 +1,4 @@
+-- Proof of `bound_fields`: the calls give the two clocks, and the remainder by 2^13 is the word's bits 12 to 0.
 use borrow.Author.Needs.{needs}
 use Rattle.zone.proofs.WordLaws.{fields-are}
 use Rattle.zone.proofs.words.bound_fields.Statement.{statement}

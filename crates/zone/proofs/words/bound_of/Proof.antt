@@ -1,3 +1,4 @@
+-- Proof of `bound_of`: bits 12 to 0 minus 4096 fit in a signed word, so the constant is that of the definition.
 use borrow.Author.Needs.{needs}
 use Rattle.zone.proofs.WordLaws.{number-fits, cell-is}
 use Rattle.zone.proofs.words.bound_of.Statement.{statement}

@@ -1,3 +1,4 @@
+-- Proof of `first_clock`: the quotient and the remainder are bits 27 to 24, as the definition has them.
 use mathlib.Core.Path.{refl}
 use Rattle.zone.specs.Words.{boundOf}
 use Rattle.zone.proofs.words.first_clock.Statement.{statement}

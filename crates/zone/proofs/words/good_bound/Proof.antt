@@ -1,3 +1,4 @@
+-- Proof of `good_bound`: the definition asks for kind 5 and for good fields, which the two calls give.
 use borrow.Author.Needs.{needs}
 use Rattle.zone.specs.Words.{goodBound?}
 use Rattle.zone.proofs.words.good_bound.Statement.{statement}

@@ -1,3 +1,4 @@
+-- Proof of `second_clock`: the quotient and the remainder are bits 23 to 20, as the definition has them.
 use mathlib.Core.Path.{refl}
 use Rattle.zone.specs.Words.{boundOf}
 use Rattle.zone.proofs.words.second_clock.Statement.{statement}

@@ -1,3 +1,4 @@
+-- Proof of `masked`: a case for each of the five clocks: clock 0 is never masked, and clock i is bit i - 1 of the mask.
 use mathlib.Core.Path.{_≡_}
 use native.Mathlib.Omega.{arith}
 use Rattle.zone.specs.Moves.{masked?}

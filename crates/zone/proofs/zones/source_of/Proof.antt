@@ -1,3 +1,4 @@
+-- Proof of `source_of`: by the test whether the mask names the clock; clock 0 and the clock itself are both below 5.
 use mathlib.Core.Path.{sym, _∙_}
 use native.Mathlib.Omega.{arith}
 use borrow.Author.Needs.{needs}

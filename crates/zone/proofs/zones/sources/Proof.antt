@@ -1,3 +1,4 @@
+-- Proof of `sources`: the five calls give the five entries of the definition's list.
 use borrow.Author.Needs.{needs}
 use Rattle.zone.specs.Squares.{listOf}
 use Rattle.zone.proofs.zones.sources.Statement.{statement}

@@ -1,4 +1,4 @@
--- `Line::with_number`: the fewest digits in base ten, which the library writes, are the number's text.
+-- Proof of `Line::with_number`: the fewest digits in base ten, which the library writes, are the number's text.
 use mathlib.Core.Path.{ap, _∙_}
 use mathlib.Core.List.{_++_}
 use native.Mathlib.Omega.{arith}

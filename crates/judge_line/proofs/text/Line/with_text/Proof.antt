@@ -1,4 +1,4 @@
--- `Line::with_text` by its loop: after k turns the bytes are the old ones with the first k of the text copied to their place.
+-- Proof of `Line::with_text`: after k turns the bytes are the old ones with the first k of the text copied to their place.
 use Prim.Native.Nat.{ℕ, _+_, _-_, _≤_, _<_}
 use mathlib.Core.Path.{_≡_, refl, ap, _∙_}
 use mathlib.Core.List.{List, _++_}

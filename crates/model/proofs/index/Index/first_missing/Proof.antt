@@ -1,3 +1,4 @@
+-- Proof of `Index::first_missing`: the answer for all of the edges is the answer for those from edge e on.
 use Prim.Native.Nat.{_≤_, _-_}
 use mathlib.Core.Path.{_≡_, refl, sym, _∙_}
 use native.Mathlib.Omega.{arith}

@@ -1,3 +1,4 @@
+-- Proof of `Seen::adds`: the code's three tests are those of the definition, with the kind that the call gives.
 use borrow.Author.Needs.{needs}
 use Rattle.model.specs.Scan.{addsAt?}
 use Rattle.model.specs.Reading.{adds?}

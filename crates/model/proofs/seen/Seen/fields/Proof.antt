@@ -1,3 +1,4 @@
+-- Proof of `Seen::fields`: by the word's kind, the calls decide what the definition asks; a word of none of the six kinds fails.
 use mathlib.Core.Path.{_∙_}
 use native.Mathlib.Omega.{arith}
 use borrow.Author.Needs.{needs}

@@ -1,3 +1,4 @@
+-- Proof of `Seen::last_fault`: by the test whether the opener is the start word.
 use borrow.Author.Tests.{eq-eqb, ne-eqb}
 use Rattle.model.specs.Scan.{lastFault}
 use Rattle.model.proofs.seen.Seen.last_fault.Statement.{statement}

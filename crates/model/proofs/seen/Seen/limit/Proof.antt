@@ -1,3 +1,4 @@
+-- Proof of `Seen::limit`: by the word's kind: a location, an action and an edge have a limit, and every other word has none.
 use native.Mathlib.Omega.{arith}
 use borrow.Author.Needs.{needs}
 use Rattle.model.specs.Kinds.{location, action, edge}

@@ -1,3 +1,4 @@
+-- Proof of `Seen::with_edge`: the call gives the weight, and the limits keep the three sums from overflowing.
 use borrow.Author.Needs.{needs}
 use Rattle.model.proofs.seen.Seen.with_edge.Statement.{statement}
 use Rattle.model.proofs.seen.Seen.with_edge.Tie as tie

@@ -1,3 +1,4 @@
+-- Proof of `Seen::with_head`: the calls give the clocks and the denominator, and the other fields are as in the definition.
 use borrow.Author.Needs.{needs}
 use Rattle.model.proofs.seen.Seen.with_head.Statement.{statement}
 use Rattle.model.proofs.seen.Seen.with_head.Tie as tie

@@ -1,3 +1,4 @@
+-- Proof of `Seen::with_start`: the call gives the start location, and the other fields are as in the definition.
 use borrow.Author.Needs.{needs}
 use Rattle.model.proofs.seen.Seen.with_start.Statement.{statement}
 use Rattle.model.proofs.seen.Seen.with_start.Tie as tie

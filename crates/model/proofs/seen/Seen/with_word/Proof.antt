@@ -1,3 +1,4 @@
+-- Proof of `Seen::with_word`: by the word's kind, each call adds what the definition adds; a bound or a word of no kind adds nothing.
 use Prim.Native.Nat.{ℕ}
 use mathlib.Core.Path.{_≡_, sym, _∙_}
 use borrow.Author.Needs.{needs}

@@ -1,3 +1,4 @@
+-- Proof of `NodeEntry::of`: the call gives the value, and the location and the place are those handed over.
 use borrow.Author.Needs.{needs}
 use Rattle.table.proofs.nodes.NodeEntry.of.Statement.{statement}
 use Rattle.table.proofs.nodes.NodeEntry.of.Tie as tie

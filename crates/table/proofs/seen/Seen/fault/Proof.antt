@@ -1,3 +1,4 @@
+-- Proof of `Seen::fault`: each return names the first check that fails, those before it having passed; at the last return all have.
 use mathlib.Core.Path.{_≡_}
 use mathlib.Core.Bool.{true, _&&_}
 use borrow.Author.Needs.{needs}

@@ -1,3 +1,4 @@
+-- Proof of `Seen::fields`: by the word's kind, the calls decide what the definition asks; a word of none of the seven kinds fails.
 use Prim.Native.Nat.{ℕ}
 use mathlib.Core.Path.{_≡_, _∙_}
 use borrow.Author.Needs.{needs}

@@ -1,3 +1,4 @@
+-- Proof of `Seen::last_fault`: by the test whether the opener is the start node's word.
 use borrow.Author.Tests.{eq-eqb, ne-eqb}
 use Rattle.table.specs.Scan.{lastFault}
 use Rattle.table.proofs.seen.Seen.last_fault.Statement.{statement}

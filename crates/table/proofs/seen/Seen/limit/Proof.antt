@@ -1,3 +1,4 @@
+-- Proof of `Seen::limit`: only nodes have a limit, as the definition says kind by kind (`limit-is`).
 use borrow.Author.Needs.{needs}
 use Rattle.table.proofs.WordChecks.{limit-is}
 use Rattle.table.proofs.seen.Seen.limit.Statement.{statement}

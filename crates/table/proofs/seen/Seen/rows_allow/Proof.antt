@@ -1,3 +1,4 @@
+-- Proof of `Seen::rows_allow`: by the word's kind: nodes, words of rows and the start node depend on the rows due, other words do not.
 use native.Mathlib.Omega.{arith}
 use borrow.Author.Needs.{needs}
 use Rattle.model.specs.TableKinds.{node, blocked, successor, startNode}

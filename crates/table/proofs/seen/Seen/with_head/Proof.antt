@@ -1,3 +1,4 @@
+-- Proof of `Seen::with_head`: the call gives V, and the other fields are as in the definition.
 use borrow.Author.Needs.{needs}
 use Rattle.table.proofs.seen.Seen.with_head.Statement.{statement}
 use Rattle.table.proofs.seen.Seen.with_head.Tie as tie

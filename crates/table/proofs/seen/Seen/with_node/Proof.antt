@@ -1,3 +1,4 @@
+-- Proof of `Seen::with_node`: the call gives the location, and after at most 64 nodes one more does not overflow.
 use borrow.Author.Needs.{needs}
 use Rattle.table.proofs.seen.Seen.with_node.Statement.{statement}
 use Rattle.table.proofs.seen.Seen.with_node.Tie as tie

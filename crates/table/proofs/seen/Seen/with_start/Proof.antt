@@ -1,3 +1,4 @@
+-- Proof of `Seen::with_start`: the call gives the number of the start node, and the other fields are as in the definition.
 use borrow.Author.Needs.{needs}
 use Rattle.table.proofs.seen.Seen.with_start.Statement.{statement}
 use Rattle.table.proofs.seen.Seen.with_start.Tie as tie

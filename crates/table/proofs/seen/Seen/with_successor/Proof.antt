@@ -1,3 +1,4 @@
+-- Proof of `Seen::with_successor`: by the test whether this successor completes the row.
 use borrow.Author.Tests.{eq-eqb, ne-eqb}
 use borrow.Author.Needs.{needs}
 use Rattle.table.proofs.seen.Seen.with_successor.Statement.{statement}

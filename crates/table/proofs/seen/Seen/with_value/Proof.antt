@@ -1,3 +1,4 @@
+-- Proof of `Seen::with_value`: by the test whether the location is a target, which has no rows.
 use Rattle.table.proofs.seen.Seen.with_value.Statement.{statement}
 use Rattle.table.proofs.seen.Seen.with_value.Tie as tie
 

@@ -1,3 +1,4 @@
+-- Proof of `Seen::with_word`: by the word's kind, each call adds what the definition adds; the rest, no value or successor, adds nothing.
 use Prim.Native.Nat.{ℕ}
 use mathlib.Core.Path.{_≡_, sym, _∙_}
 use borrow.Author.Tests.{eqb-false}

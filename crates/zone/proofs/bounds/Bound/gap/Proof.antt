@@ -1,3 +1,4 @@
+-- Proof of `Bound::gap`: in 64 bits neither the negation of a 32-bit constant nor the sum overflows, so the result is the difference.
 use Rattle.zone.proofs.Machine.{wide-cast, wide-neg, wide-sum, wide-difference}
 use Rattle.zone.proofs.bounds.Bound.gap.Statement.{statement}
 use Rattle.zone.proofs.bounds.Bound.gap.Tie as tie

@@ -1,3 +1,4 @@
+-- Proof of `Bound::negative`: by definition a bound is negative where it is tighter than "at most 0".
 use borrow.Author.Needs.{needs}
 use Rattle.zone.specs.Cells.{negative?}
 use Rattle.zone.proofs.bounds.Bound.negative.Statement.{statement}

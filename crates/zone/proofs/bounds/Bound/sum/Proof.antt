@@ -1,3 +1,4 @@
+-- Proof of `Bound::sum`: constants below 2^30 in size add without overflow; where not both bounds are finite, the sum is unbounded.
 use Rattle.zone.proofs.CellCode.{no-sum, sum-fits, sum-is}
 use Rattle.zone.proofs.bounds.Bound.sum.Statement.{statement}
 use Rattle.zone.proofs.bounds.Bound.sum.Tie as tie

@@ -1,3 +1,4 @@
+-- Proof of `Bound::tighter`: the sign of the difference of two constants says what comparing them says (`tighter-by-gap`).
 use borrow.Author.Needs.{needs}
 use Rattle.zone.proofs.CellCode.{tighter-by-gap}
 use Rattle.zone.proofs.bounds.Bound.tighter.Statement.{statement}

@@ -1,3 +1,4 @@
+-- Proof of `Bound::tighter_of`: the definition makes the same choice, by the test whether the other bound is tighter.
 use mathlib.Core.Path.{sym, _∙_}
 use borrow.Author.Needs.{needs}
 use Rattle.zone.proofs.CellCode.{is-tightened, not-tightened}

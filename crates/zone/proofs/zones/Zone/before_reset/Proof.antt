@@ -1,3 +1,4 @@
+-- Proof of `Zone::before_reset`: after p turns the table is the universe with the first p bounds, each put on the sources of its clocks.
 use Prim.Native.Nat.{ℕ, _≤_, _<_, _-_, _/_, _%_, _*_, _+_}
 use mathlib.Core.List.{List}
 use mathlib.Core.Path.{_≡_}

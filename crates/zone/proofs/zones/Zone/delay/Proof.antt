@@ -1,3 +1,4 @@
+-- Proof of `Zone::delay`: before row i, the rows below i are those of the delayed table, and the others are still the zone's own.
 use Prim.Native.Nat.{ℕ, _≤_, _<_, _-_, _/_, _%_, _*_, _+_}
 use mathlib.Core.Path.{_≡_, sym}
 use mathlib.Core.Bool.{not, and-false}

@@ -1,3 +1,4 @@
+-- Proof of `Zone::inside`: at cell p, no bound of the other zone before it is tighter than this zone's; an absent bound never is.
 use Prim.Native.Nat.{ℕ, _≤_, _<_, _-_}
 use mathlib.Core.Path.{_≡_, ap, sym, _∙_}
 use mathlib.Core.Bool.{not, true}

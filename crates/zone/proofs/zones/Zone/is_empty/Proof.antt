@@ -1,3 +1,4 @@
+-- Proof of `Zone::is_empty`: at clock i, no clock below i has a negative bound on itself minus itself.
 use Prim.Native.Nat.{ℕ, _≤_, _<_, _-_}
 use mathlib.Core.Path.{_≡_, ap, sym, _∙_}
 use mathlib.Core.Bool.{not, true}

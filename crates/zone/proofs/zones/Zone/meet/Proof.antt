@@ -1,3 +1,4 @@
+-- Proof of `Zone::meet`: the cells below p are the tighter of the two zones' bounds, and the others are still the first zone's.
 use Prim.Native.Nat.{ℕ, _≤_, _<_, _-_}
 use mathlib.Core.Path.{_≡_, sym, _∙_}
 use mathlib.Core.Logic.{⊎-elim}

@@ -1,3 +1,4 @@
+-- Proof of `Zone::reset`: the cells before (i, j) are those of the reset table, the others still the zone's; every source is a clock.
 use Prim.Native.Nat.{ℕ, _≤_, _<_, _-_, _*_, _+_}
 use mathlib.Core.Path.{_≡_, sym}
 use mathlib.Core.List.{List}

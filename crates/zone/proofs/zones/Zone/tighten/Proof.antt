@@ -1,3 +1,4 @@
+-- Proof of `Zone::tighten`: after m passes the table is the algorithm's after m, and each pass at most doubles the size of a constant.
 use Prim.Native.Nat.{ℕ, _≤_, _<_, _-_, _*_, _+_, _/_, _%_, _^_}
 use mathlib.Core.Path.{_≡_, refl, sym, ap, subst, _∙_}
 use mathlib.Core.Bool.{true, false}

@@ -1,3 +1,4 @@
+-- Proof of `Zone::universe`: the cells below p are those of the definition, and the others are still unbounded.
 use Prim.Native.Nat.{ℕ, _≤_, _<_, _-_, _/_, _%_}
 use mathlib.Core.Path.{_≡_, refl, _∙_}
 use mathlib.Core.Bool.{true, false, _||_}
