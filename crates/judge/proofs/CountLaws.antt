@@ -4,7 +4,7 @@
 use Prim.Native.Nat.{ℕ, zero, suc, _+_, _*_, _^_, _≤_, zero-le}
 use mathlib.Core.Path.{_≡_, refl}
 use mathlib.Core.Bool.{Bool, true, false, cond, _&&_}
-use mathlib.Core.List.{List, [], _∷_, reverse}
+use mathlib.Core.List.{List, [], _∷_, _++_, reverse}
 use mathlib.Core.Option.{some}
 use native.Mathlib.Nat.{le-refl, le-trans, le-of-eq, mul-le-mul-left, add-le-add, add-mul, pow-zero, pow-succ'}
 use lib.Dec.{eqb, leb, lit≤}
@@ -102,57 +102,75 @@ unfolding
     later landing invariant? throughout? land? allowed? edgesCount choiceCount moveCount atTarget? weightedCount
 attained = (refl, refl, refl, refl, refl, refl)
 
--- ---- what a scheduler sees: every state so far, in their order, the present one last. A list that is empty, reversed, or has lost a state gives
--- another count
+-- ---- what a scheduler sees: every state so far, in their order, the present one last
 
--- one action: of 3, a weight of 2 reaches the target and a weight of 1 comes back, with the clock running on
+-- for every list: the scheduler is shown the list with the present state at its end, and so it is where the count goes on
+pub count-step : (M : Model) (k : ℕ) (σ : Scheduler) (n : ℕ) (before : List State) (s : State) → atTarget? M s ≡ false →
+    weightedCount M k σ (suc n) before s ≡ moveCount M k s (weightedCount M k σ n (before ++ (s ∷ []))) (σ (before ++ (s ∷ [])))
+unfolding weightedCount
+count-step M k σ n before s e = rw e
+
+-- the same by numbers. Two locations, two clocks: from either location a weight of 2 of 3 reaches the target, and a weight of 1 leads to the other
+-- location; on the way from location 0 clock 1 is set to 0
 abbrev pub returning : List ℕ
 returning =
-    0x11100003 ∷ 0x20000000 ∷ 0x30000000 ∷ 0x40000001 ∷ 0x40010002 ∷ 0x20000001 ∷ 0x60000000 ∷ 0x51001000 ∷ []
+    0x11200003 ∷ 0x20000000 ∷ 0x30000000 ∷ 0x40110001 ∷ 0x40020002 ∷ 0x20000000 ∷ 0x30000000 ∷ 0x40000001 ∷ 0x40020002 ∷ 0x20000001 ∷
+    0x60000000 ∷ 0x51001000 ∷ 0x52001000 ∷ []
 
--- at the location of that action, with the clock at x
-abbrev pub stateAt : ℕ → State
-stateAt x = record { location = 0; valuation = λ i. x }
+abbrev pub stateAt : ℕ → ℕ → ℕ → State
+stateAt l x y = record { location = l; valuation = λ i. cond (eqb i 1) x y }
 
--- waits one unit and takes the action where a test of the list holds, and stops elsewhere
+-- the states that are passed with a wait of one in each, unless the target is reached
+abbrev pub passed : List State
+passed = stateAt 0 0 0 ∷ stateAt 1 0 1 ∷ stateAt 0 1 2 ∷ stateAt 1 0 3 ∷ stateAt 0 1 4 ∷ []
+
+-- waits one and takes the action where a test of the list holds, and stops elsewhere
 abbrev pub watches : (List State → Bool) → Scheduler
 watches test? history = cond (test? history) (choose (record { delay = 1; action = 0 })) stop
 
--- for three steps, from the start state alone. A first step counts 2 × 9 = 18, a second 1 × 2 × 3 = 6 more, a third 1 × 1 × 2 = 2 more
+-- for n steps at scale 2, behind some states
+abbrev pub watched : (List State → Bool) → ℕ → List State → State → ℕ
+watched test? n before s = weightedCount (modelOf returning) 2 (watches test?) n before s
+
+-- for five steps from the start state. The first step counts 2 × 81 = 162, and those behind it 54, 18, 6 and 2 more
 abbrev pub seen : (List State → Bool) → ℕ
-seen test? = weightedCount (modelOf returning) 1 (watches test?) 3 [] (stateAt 0)
+seen test? = watched test? 5 [] (stateAt 0 0 0)
 
--- the states of the list read x, x + 1, .. on clock 1
-unfoldable pub rising? : ℕ → List State → Bool
-rising? x [] = true
-rising? x (s ∷ ss) = eqb (s .valuation 1) x && rising? (suc x) ss
+-- the same location, and both clocks alike
+abbrev pub same? : State → State → Bool
+same? s t = eqb (s .location) (t .location) && eqb (s .valuation 1) (t .valuation 1) && eqb (s .valuation 2) (t .valuation 2)
 
--- the first state of the list has clock 1 at 0
-abbrev pub began? : List State → Bool
-began? history = eqb (getD history 0 (stateAt 9) .valuation 1) 0
+-- the list is a beginning of another
+unfoldable pub begins? : List State → List State → Bool
+begins? ts [] = true
+begins? [] (s ∷ ss) = false
+begins? (t ∷ ts) (s ∷ ss) = same? s t && begins? ts ss
 
-pub start-starts : IsStart (modelOf returning) 1 (stateAt 0)
+-- its first state is the start state
+abbrev pub started? : List State → Bool
+started? history = same? (getD history 0 (stateAt 9 9 9)) (stateAt 0 0 0)
+
+pub start-starts : IsStart (modelOf returning) 2 (stateAt 0 0 0)
 unfolding among kindOf boundOf partsWith partsOf modelOf locationAt read holds? in? within
 start-starts = record { location = refl; state = record { exists = lit≤ tt; invariant = tt }; bounds = tt }
 
--- its length: at most 0, 1, 2 or 3 states
+-- its length: at most 0, 1, .. or 5 states
 abbrev pub Lengths : Type 0
 Lengths =
-    (seen (λ h. leb (length h) 0) ≡ 0) × (seen (λ h. leb (length h) 1) ≡ 18) × (seen (λ h. leb (length h) 2) ≡ 24) ×
-    (seen (λ h. leb (length h) 3) ≡ 26)
+    (seen (λ h. leb (length h) 0) ≡ 0) × (seen (λ h. leb (length h) 1) ≡ 162) × (seen (λ h. leb (length h) 2) ≡ 216) ×
+    (seen (λ h. leb (length h) 3) ≡ 234) × (seen (λ h. leb (length h) 4) ≡ 240) × (seen (λ h. leb (length h) 5) ≡ 242)
 
--- an earlier state: with the start state before it, the state that reads 1 has two steps more, and without it none
+-- an earlier state: with the start state before it, the second state has four steps more, and without it none
 abbrev pub Earlier : Type 0
 Earlier =
-    (seen began? ≡ 26) × (weightedCount (modelOf returning) 1 (watches began?) 2 (stateAt 0 ∷ []) (stateAt 1) ≡ 8) ×
-    (weightedCount (modelOf returning) 1 (watches began?) 2 [] (stateAt 1) ≡ 0)
+    (seen started? ≡ 242) × (watched started? 4 (stateAt 0 0 0 ∷ []) (stateAt 1 0 1) ≡ 80) × (watched started? 4 [] (stateAt 1 0 1) ≡ 0)
 
--- the order: rising from the start on, and not the other way round
+-- all states, with their locations and clocks, in their order, and not the other way round
 abbrev pub Order : Type 0
-Order = (seen (rising? 0) ≡ 26) × (seen (λ h. rising? 0 (reverse h)) ≡ 18)
+Order = (seen (begins? passed) ≡ 242) × (seen (λ h. begins? passed (reverse h)) ≡ 162)
 
 pub sees : Lengths × Earlier × Order
 unfolding
     among kindOf boundOf partsWith partsOf modelOf locationAt read holds? in? delayed masked? reset
-    later landing invariant? throughout? land? allowed? edgesCount choiceCount moveCount atTarget? weightedCount rising?
-sees = ((refl, refl, refl, refl), (refl, refl, refl), (refl, refl))
+    later landing invariant? throughout? land? allowed? edgesCount choiceCount moveCount atTarget? weightedCount begins?
+sees = ((refl, refl, refl, refl, refl, refl), (refl, refl, refl), (refl, refl))
