@@ -33,16 +33,17 @@ use Rattle.table.specs.declared.read.TableAnswer.the-variants as table
 use Rattle.table.specs.declared.read.TableRead.{TableRead}
 use Rattle.table.proofs.IndexFits.{index-fits}
 use Rattle.table.proofs.Shape.{NodeShaped, Shaped, shaped}
-use Rattle.judge.specs.Acceptance.{startValuations, certified}
-use Rattle.judge.specs.Judging.{nodesChecks, certificateOf, Judged, Exactly, BoundsSchedulers, verdictAnswer}
+use Rattle.acceptance.specs.Acceptance.{startValuations, certified}
+use Rattle.acceptance.specs.Judging.{nodesChecks, certificateOf, Judged, Exactly, BoundsSchedulers}
+use Rattle.judge.specs.Verdicts.{verdictAnswer}
 use Rattle.judge.specs.Reaching.{ActionsFit, enabledSquares}
 use Rattle.judge.specs.Walk.{walked, WalkInRange}
 use Rattle.judge.specs.Deciding.{findingAnswer, HandsOn, startVerdict}
 use Rattle.judge.specs.declared.walk.Finding.{Finding}
 use Rattle.judge.specs.declared.walk.Finding.the-variants as finding
-use Rattle.judge.specs.declared.verdict.Certificate.{Certificate}
+use Rattle.acceptance.specs.declared.certificate.Certificate.{Certificate}
 use Rattle.judge.specs.declared.verdict.Verdict.{Verdict}
-use Rattle.judge.proofs.Exact.{exactly, promised}
+use Rattle.acceptance.proofs.Exact.{exactly, promised}
 use Rattle.judge.proofs.Starting.{start-not-empty, start-inside-yes, start-inside-no}
 use Rattle.judge.proofs.Starts.{start-first}
 use Rattle.judge.proofs.RowLaws.{node-at, shaped-at, actions-fit}

@@ -35,12 +35,13 @@ use Rattle.table.specs.Fields as fields
 use Rattle.table.specs.Reading as reading
 use Rattle.table.specs.Scan as scan
 use Rattle.table.specs.Index as index
-use Rattle.judge.specs.Judging.{Judged, verdictAnswer}
+use Rattle.acceptance.specs.Judging.{Judged}
+use Rattle.judge.specs.Verdicts.{verdictAnswer}
 use Rattle.judge.specs.Reaching.{withLanding, withLandings, enabledSquare, enabledSquares, waitedSquare, reachSquare}
 use Rattle.judge.specs.Walk.{successorFinding, orElse, successorsFrom, rowsFrom, nodesFrom, walked}
 use Rattle.judge.specs.Deciding.{startVerdict}
-use Rattle.judge.specs.declared.verdict.Certificate.{Certificate}
-use Rattle.judge.proofs.CountLaws.{timeline}
+use Rattle.acceptance.specs.declared.certificate.Certificate.{Certificate}
+use Rattle.acceptance.proofs.CountLaws.{timeline}
 use Rattle.judge.proofs.Computing.{behindModel, behindWords, behindNodes, modelRead, tableRead, judged, computed, computes}
 
 -- T; M is `timeline`

@@ -22,7 +22,8 @@ use Rattle.table.specs.declared.read.TableAnswer.{TableAnswer}
 use Rattle.table.specs.declared.read.TableAnswer.the-variants as table
 use Rattle.table.specs.declared.read.TableRead.{TableRead}
 use Rattle.table.proofs.Reading.{read-for}
-use Rattle.judge.specs.Judging.{Judged, verdictAnswer}
+use Rattle.acceptance.specs.Judging.{Judged}
+use Rattle.judge.specs.Verdicts.{verdictAnswer}
 use Rattle.judge.specs.Reaching.{enabledSquares}
 use Rattle.judge.specs.Walk.{walked}
 use Rattle.judge.specs.Deciding.{findingAnswer}

@@ -14,11 +14,12 @@ use Rattle.table.specs.Table.{Table, tableOf}
 use Rattle.table.specs.Reading.{readChecks, tableAnswer}
 use Rattle.table.specs.declared.read.TableAnswer.{TableAnswer}
 use Rattle.table.specs.declared.read.TableAnswer.the-variants as table
-use Rattle.judge.specs.Judging.{nodesChecks, startChecks, tableChecks, judgeChecks, certificateOf, Judged, verdictAnswer}
+use Rattle.acceptance.specs.Judging.{nodesChecks, startChecks, tableChecks, judgeChecks, certificateOf, Judged}
+use Rattle.judge.specs.Verdicts.{verdictAnswer}
 use Rattle.judge.specs.Deciding.{findingAnswer, HandsOn}
 use Rattle.judge.specs.declared.walk.Finding.{Finding}
 use Rattle.judge.specs.declared.walk.Finding.the-variants as finding
-use Rattle.judge.specs.declared.verdict.Certificate.{Certificate}
+use Rattle.acceptance.specs.declared.certificate.Certificate.{Certificate}
 use Rattle.judge.specs.declared.verdict.Verdict.{Verdict}
 
 -- an answer that refuses

@@ -1,9 +1,4 @@
--- The laws of `judge`, none of which uses a later one: demand 3, then the verdict; proofs of functions stand in folders of their own.
-pub mod SchedulerLaws
-pub mod Demand3
-pub mod CountLaws
-pub mod Agreement
-pub mod Exact
+-- The laws of `judge`, none of which uses a later one: the reach, the walk, the verdict; proofs of functions stand in folders of their own.
 pub mod LandingLaws
 pub mod RowReach
 pub mod ReachSizes

@@ -3,9 +3,9 @@ use mathlib.Core.Path.{_≡_, refl}
 use mathlib.Core.Bool.{cond}
 use lib.Dec.{eqb}
 use Rattle.zone.specs.Checks.{Answer, refused, accepted}
-use Rattle.judge.specs.Judging.{verdictAnswer}
+use Rattle.judge.specs.Verdicts.{verdictAnswer}
 use Rattle.judge.specs.Numbers.{numbered}
-use Rattle.judge.specs.declared.verdict.Certificate.{Certificate}
+use Rattle.acceptance.specs.declared.certificate.Certificate.{Certificate}
 use Rattle.judge.specs.declared.verdict.Verdict.{Verdict}
 use Rattle.judge.specs.declared.verdict.Verdict.the-variants as verdict
 use Rattle.judge.specs.declared.numbers.Numbered.{Numbered}

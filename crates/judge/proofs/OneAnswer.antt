@@ -6,11 +6,12 @@ use mathlib.Core.List.{List}
 use lib.Dec.{eqb}
 use Rattle.zone.specs.Checks.{Answer, refused, accepted}
 use Rattle.zone.proofs.CheckLaws.{tell}
-use Rattle.judge.specs.Judging.{Judged, verdictAnswer}
-use Rattle.judge.specs.declared.verdict.Certificate.{Certificate}
+use Rattle.acceptance.specs.Judging.{Judged}
+use Rattle.judge.specs.Verdicts.{verdictAnswer}
+use Rattle.acceptance.specs.declared.certificate.Certificate.{Certificate}
 use Rattle.judge.specs.declared.verdict.Verdict.{Verdict}
 use Rattle.judge.specs.declared.verdict.Verdict.the-variants as verdict
-use Rattle.judge.proofs.Exact.{judged-only}
+use Rattle.acceptance.proofs.Exact.{judged-only}
 
 -- each case can be told from what it says
 verdictOf : Answer Certificate → Verdict

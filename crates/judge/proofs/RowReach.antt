@@ -26,8 +26,8 @@ use Rattle.model.proofs.GoodModel.{GoodAction, GoodModel}
 use Rattle.model.proofs.IndexLaws.{location-at, invariant-stands, guard-stands}
 use Rattle.model.proofs.WellFormed.{FormedEdge}
 use Rattle.table.specs.Table.{Node}
-use Rattle.judge.specs.Choices.{later, landing, invariant?, throughout?, land?, allowed?}
-use Rattle.judge.specs.Acceptance.{Reach}
+use Rattle.acceptance.specs.Choices.{later, landing, invariant?, throughout?, land?, allowed?}
+use Rattle.acceptance.specs.Acceptance.{Reach}
 use Rattle.judge.specs.Reaching.{withLanding, withLandings, enabledSquare, waitedSquare, reachSquare}
 
 -- the invariant holds throughout a delay where it holds before it and after it

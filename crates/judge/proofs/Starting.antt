@@ -16,7 +16,7 @@ use Rattle.model.proofs.ZoneLaws.{GoodZone, stands-bounds}
 use Rattle.model.proofs.GoodModel.{GoodModel}
 use Rattle.model.proofs.IndexLaws.{location-at}
 use Rattle.model.proofs.Starting.{startRegion, start-met, start-no}
-use Rattle.judge.specs.Acceptance.{startValuations}
+use Rattle.acceptance.specs.Acceptance.{startValuations}
 
 module _ {M : Model} {r : ModelRead} (x : Indexed M r) (good : GoodModel M) (l : M .start < length (M .locations)) where
   invariant : getD (r .zones) (M .start) universe ≡ withBounds (locationAt M (M .start) .invariant) universe

@@ -13,10 +13,11 @@ use Rattle.zone.proofs.Bools.{false-true}
 use Rattle.model.specs.Model.{Model}
 use Rattle.table.specs.Table.{Table, nodeAt}
 use Rattle.table.specs.declared.nodes.NodeEntry.{NodeEntry}
-use Rattle.judge.specs.Acceptance.{startValuations}
-use Rattle.judge.specs.Judging.{startChecks, certificateOf, verdictAnswer}
+use Rattle.acceptance.specs.Acceptance.{startValuations}
+use Rattle.acceptance.specs.Judging.{startChecks, certificateOf}
+use Rattle.judge.specs.Verdicts.{verdictAnswer}
 use Rattle.judge.specs.Deciding.{startVerdict}
-use Rattle.judge.specs.declared.verdict.Certificate.{Certificate}
+use Rattle.acceptance.specs.declared.certificate.Certificate.{Certificate}
 use Rattle.judge.specs.declared.verdict.Verdict.the-variants as verdict
 
 -- y decides whether the start valuations lie in the start node's zone

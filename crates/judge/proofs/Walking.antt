@@ -31,8 +31,8 @@ use Rattle.table.specs.Index.{noEntry}
 use Rattle.table.specs.Indexed.{NodeIs, TableIndexed}
 use Rattle.table.specs.declared.read.TableRead.{TableRead}
 use Rattle.table.proofs.Shape.{RowStands, RowsStand, NodeShaped, Shaped}
-use Rattle.judge.specs.Acceptance.{Reach, rowSum}
-use Rattle.judge.specs.Judging.{successorChecks, rowChecks, rowsChecks, nodeChecks, nodesChecks}
+use Rattle.acceptance.specs.Acceptance.{Reach, rowSum}
+use Rattle.acceptance.specs.Judging.{successorChecks, rowChecks, rowsChecks, nodeChecks, nodesChecks}
 use Rattle.judge.specs.Reaching.{enabledSquares, waitedSquare, reachSquare}
 use Rattle.judge.specs.Walk.{successorFinding, orElse, successorsFrom, rowsFrom, nodesFrom, walked}
 use Rattle.judge.specs.Deciding.{findingAnswer}

@@ -9,7 +9,7 @@ use Rattle.zone.specs.declared.zones.Zone.{Zone as Square}
 use Rattle.table.specs.declared.nodes.NodeEntry.{NodeEntry}
 use Rattle.judge.specs.declared.walk.Finding.{Finding}
 use Rattle.judge.specs.declared.walk.Finding.the-variants as finding
-use Rattle.judge.specs.declared.verdict.Certificate.{Certificate}
+use Rattle.acceptance.specs.declared.certificate.Certificate.{Certificate}
 use Rattle.judge.specs.declared.verdict.Verdict.{Verdict}
 use Rattle.judge.specs.declared.verdict.Verdict.the-variants as verdict
 

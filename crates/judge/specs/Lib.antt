@@ -1,8 +1,5 @@
--- The definitions that the contracts of `judge` rest on: document 01's on schedulers and acceptance, then the algorithms.
-pub mod Choices
-pub mod Schedulers
-pub mod Acceptance
-pub mod Judging
+-- The definitions that the contracts of `judge` rest on: a verdict in document 01's numbers and values, then the algorithms.
+pub mod Verdicts
 pub mod Numbers
 pub mod Reaching
 pub mod Walk

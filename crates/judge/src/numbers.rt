@@ -1,9 +1,9 @@
 // A verdict in document 01's numbers.
 ghost use mathlib.Core.Path.{_≡_};
-ghost use Rattle.judge.specs.Judging.{verdictAnswer};
+ghost use Rattle.judge.specs.Verdicts.{verdictAnswer};
 ghost use Rattle.zone.specs.Checks.{refused};
 ghost use Rattle.judge.specs.Numbers.{numbered};
-use crate::verdict::Certificate;
+use acceptance::certificate::Certificate;
 use crate::verdict::Verdict;
 
 // A verdict in document 01's numbers: the number of a refusal and its place, or 0 and what an acceptance gives.

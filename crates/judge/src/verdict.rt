@@ -2,24 +2,19 @@
 ghost use mathlib.Core.Path.{_≡_};
 ghost use Rattle.model.specs.Reading.{modelAnswer};
 ghost use Rattle.table.specs.Reading.{tableAnswer};
-ghost use Rattle.judge.specs.Judging.{Judged, Exactly, BoundsSchedulers, verdictAnswer};
+ghost use Rattle.acceptance.specs.Judging.{Judged, Exactly, BoundsSchedulers};
+ghost use Rattle.judge.specs.Verdicts.{verdictAnswer};
 ghost use Rattle.judge.specs.Deciding.{findingAnswer, HandsOn, startVerdict};
 use crate::reaching;
 use crate::walk;
 use crate::walk::Finding;
+use acceptance::certificate::Certificate;
 use model::read as models;
 use model::read::ModelAnswer;
 use table::nodes::NodeEntry;
 use table::read as tables;
 use table::read::TableAnswer;
 use zone::zones::Zone;
-
-// What an acceptance gives: the certified fraction b / V, and how many nodes the table has.
-pub struct Certificate {
-    pub b: u32,
-    pub whole: u32, // V
-    pub nodes: usize,
-}
 
 // What an accepted table certifies, or the refusal with its place: 1 to 6 in the model, the others in the table.
 pub enum Verdict {

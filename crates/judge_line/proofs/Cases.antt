@@ -5,7 +5,7 @@ use mathlib.Core.List.{List, [], _∷_}
 use lib.Dec.{lit≤}
 use Rattle.zone.specs.Checks.{refused, accepted}
 use Rattle.judge.proofs.Cases.{cases}
-use Rattle.judge.proofs.Exact.{promised}
+use Rattle.acceptance.proofs.Exact.{promised}
 use Rattle.judge_line.specs.Bytes.{wordsOf, tablePart, modelPart}
 use Rattle.judge_line.specs.Text.{digitsWithin, lineOf}
 use Rattle.judge_line.specs.Program.{Prints}

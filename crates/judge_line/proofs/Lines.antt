@@ -3,7 +3,7 @@ use Prim.Native.Nat.{ℕ}
 use mathlib.Core.Path.{_≡_, _∙_}
 use mathlib.Core.List.{List, _++_, append-assoc}
 use Rattle.zone.specs.Checks.{refused, accepted}
-use Rattle.judge.specs.declared.verdict.Certificate.{Certificate}
+use Rattle.acceptance.specs.declared.certificate.Certificate.{Certificate}
 use Rattle.judge_line.specs.Text.{acceptedText, refusedText, space, lineFeed, decimal, lineOf}
 
 -- parts that are joined from the left are the same joined from the right

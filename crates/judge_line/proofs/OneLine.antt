@@ -4,7 +4,7 @@ use mathlib.Core.Path.{_≡_, sym, ap, _∙_}
 use mathlib.Core.List.{List}
 use Rattle.zone.specs.Checks.{Answer}
 use Rattle.zone.proofs.CheckLaws.{first-one}
-use Rattle.judge.specs.declared.verdict.Certificate.{Certificate}
+use Rattle.acceptance.specs.declared.certificate.Certificate.{Certificate}
 use Rattle.judge_line.specs.Text.{lineOf}
 use Rattle.judge_line.specs.Program.{programChecks, ProgramAnswers, Prints}
 

@@ -10,9 +10,9 @@ use lib.ListN.{length, take}
 use lib.Seq.{length-take-le}
 use Rattle.io.specs.Counts.{Counts}
 use Rattle.zone.specs.Checks.{Answer, refused, accepted}
-use Rattle.judge.specs.Judging.{Judged, BoundsSchedulers}
+use Rattle.acceptance.specs.Judging.{Judged, BoundsSchedulers}
 use Rattle.judge.proofs.Numbering.{numberedAnswer}
-use Rattle.judge.specs.declared.verdict.Certificate.{Certificate}
+use Rattle.acceptance.specs.declared.certificate.Certificate.{Certificate}
 use Rattle.judge.specs.declared.numbers.Numbered.{Numbered}
 use Rattle.judge_line.specs.Bytes.{wordsOf, tablePart}
 use Rattle.judge_line.specs.Text.{lineOf}

@@ -7,8 +7,8 @@ use lib.ListN.{length}
 use Rattle.zone.specs.Checks.{Answer, Check, test, First}
 use Rattle.model.specs.Model.{modelOf}
 use Rattle.table.specs.Table.{tableOf}
-use Rattle.judge.specs.Judging.{judgeChecks, certificateOf, BoundsSchedulers}
-use Rattle.judge.specs.declared.verdict.Certificate.{Certificate}
+use Rattle.acceptance.specs.Judging.{judgeChecks, certificateOf, BoundsSchedulers}
+use Rattle.acceptance.specs.declared.certificate.Certificate.{Certificate}
 use Rattle.judge_line.specs.Bytes.{wordsOf, tablePart, modelPart}
 use Rattle.judge_line.specs.Text.{lineOf}
 

@@ -2,7 +2,7 @@
 use Prim.Native.Nat.{ℕ, zero, suc, _+_, _/_, _%_}
 use mathlib.Core.List.{List, [], _∷_, _++_}
 use Rattle.zone.specs.Checks.{Answer, refused, accepted}
-use Rattle.judge.specs.declared.verdict.Certificate.{Certificate}
+use Rattle.acceptance.specs.declared.certificate.Certificate.{Certificate}
 
 -- ACCEPTED, REFUSED, a space and a line feed
 abbrev pub acceptedText : List ℕ

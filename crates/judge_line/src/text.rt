@@ -6,7 +6,7 @@ ghost use lib.ListN.{length};
 ghost use Rattle.zone.specs.Checks.{refused, accepted};
 ghost use Rattle.judge_line.specs.Text.{decimal, lineOf};
 ghost use Rattle.judge_line.specs.Filling.{shown};
-use judge::verdict::Certificate;
+use acceptance::certificate::Certificate;
 
 // The longest line has three numbers of at most twenty digits.
 pub const LONGEST: usize = 72;

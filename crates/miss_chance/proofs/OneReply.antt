@@ -13,7 +13,7 @@ use Rattle.zone.specs.Checks.{Answer}
 use Rattle.zone.specs.Questions.{clockCheck, boundChecks, AskedEmpty, AskedInside}
 use Rattle.zone.proofs.CheckLaws.{first-one, one-bool}
 use Rattle.model.specs.Reading.{modelChecks, countsOf, ReadModel}
-use Rattle.judge.proofs.Exact.{judged-only}
+use Rattle.acceptance.proofs.Exact.{judged-only}
 use Rattle.miss_chance.specs.Replies.{answerWords, certificateWords, countsWords, yesWords, Replies, Verdicts}
 
 -- the same words after the call, and the same value returned

@@ -7,8 +7,8 @@ use mathlib.Core.List.{List, [], _∷_, _++_}
 use lib.ListN.{length, drop}
 use Rattle.zone.specs.Checks.{Answer, refused, accepted}
 use Rattle.model.specs.declared.read.Counts.{Counts}
-use Rattle.judge.specs.Judging.{Judged, Exactly, BoundsSchedulers}
-use Rattle.judge.specs.declared.verdict.Certificate.{Certificate}
+use Rattle.acceptance.specs.Judging.{Judged, Exactly, BoundsSchedulers}
+use Rattle.acceptance.specs.declared.certificate.Certificate.{Certificate}
 
 -- a refusal is its number and its place with nothing else, so zeros follow; an acceptance is 0, which is no refusal's number, and its values
 abbrev pub answerWords : {A : Type 0} → (A → List ℕ) → Answer A → List ℕ

@@ -5,7 +5,7 @@ ghost use mathlib.Core.List.{_∷_, _++_};
 ghost use lib.ListN.{length, drop};
 ghost use Rattle.zone.specs.Questions.{emptinessAnswer, inclusionAnswer};
 ghost use Rattle.model.specs.Reading.{modelAnswer};
-ghost use Rattle.judge.specs.Judging.{verdictAnswer};
+ghost use Rattle.judge.specs.Verdicts.{verdictAnswer};
 ghost use Rattle.miss_chance.specs.Replies.{answerWords, certificateWords, countsWords, yesWords};
 ghost use Rattle.miss_chance.specs.Held.{replyWords, refusalReply};
 use judge::numbers;

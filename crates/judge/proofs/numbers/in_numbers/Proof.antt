@@ -1,7 +1,7 @@
 -- Proof of `in_numbers`: by the 18 cases of the verdict, each with the number and the values of the definition.
 use mathlib.Core.Path.{_∙_}
 use borrow.Author.Needs.{needs}
-use Rattle.judge.specs.Judging.{verdictAnswer}
+use Rattle.judge.specs.Verdicts.{verdictAnswer}
 use Rattle.judge.specs.Numbers.{numbered}
 use Rattle.judge.proofs.numbers.in_numbers.Statement.{statement}
 use Rattle.judge.proofs.numbers.in_numbers.Tie as tie

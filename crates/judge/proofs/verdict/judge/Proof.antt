@@ -7,7 +7,8 @@ use lib.ListN.{length-map}
 use types.Run.{miss}
 use Rattle.model.specs.declared.read.ModelAnswer.the-variants as model
 use Rattle.table.specs.declared.read.TableAnswer.the-variants as table
-use Rattle.judge.specs.Judging.{verdictAnswer, Judged}
+use Rattle.acceptance.specs.Judging.{Judged}
+use Rattle.judge.specs.Verdicts.{verdictAnswer}
 use Rattle.judge.specs.Reaching.{enabledSquares}
 use Rattle.judge.specs.Walk.{walked, WalkInRange}
 use Rattle.judge.specs.Deciding.{findingAnswer, HandsOn}

@@ -2,7 +2,7 @@
 use mathlib.Core.Path.{refl, ap}
 use borrow.Author.Needs.{needs}
 use Rattle.model.specs.Reading.{modelAnswer}
-use Rattle.judge.specs.Judging.{verdictAnswer}
+use Rattle.judge.specs.Verdicts.{verdictAnswer}
 use Rattle.judge.proofs.Handing.{hands, hands-nothing}
 use Rattle.judge.proofs.verdict.model_refused.Statement.{statement}
 use Rattle.judge.proofs.verdict.model_refused.Tie as tie

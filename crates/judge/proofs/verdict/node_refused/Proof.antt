@@ -2,7 +2,7 @@
 use mathlib.Core.Path.{refl}
 use borrow.Author.Needs.{needs}
 use Rattle.judge.specs.Deciding.{findingAnswer}
-use Rattle.judge.specs.Judging.{verdictAnswer}
+use Rattle.judge.specs.Verdicts.{verdictAnswer}
 use Rattle.judge.proofs.Handing.{hands, hands-nothing}
 use Rattle.judge.proofs.verdict.node_refused.Statement.{statement}
 use Rattle.judge.proofs.verdict.node_refused.Tie as tie

@@ -4,7 +4,7 @@ use mathlib.Core.List.{List}
 use native.Mathlib.Omega.{arith}
 use lib.ListN.{length, take, length-take, length-map}
 use Rattle.zone.specs.Checks.{refused}
-use Rattle.judge.specs.Judging.{verdictAnswer}
+use Rattle.judge.specs.Verdicts.{verdictAnswer}
 use Rattle.judge.proofs.Numbering.{numberedAnswer, says}
 use Rattle.judge_line.specs.Program.{ProgramAnswers}
 use Rattle.judge_line.proofs.PartLaws.{table-length}

@@ -6,7 +6,7 @@ use mathlib.Core.Option.{Option, none, some}
 use lib.ListN.{getElem?}
 use Rattle.model.specs.Model.{Edge, Action, Model}
 use Rattle.model.specs.States.{State, locationAt, IsStart}
-use Rattle.judge.specs.Choices.{Choice, later, landing, allowed?}
+use Rattle.acceptance.specs.Choices.{Choice, later, landing, allowed?}
 
 -- a choice or stopping
 pub data Move : Type 0 where

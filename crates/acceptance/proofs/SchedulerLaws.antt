@@ -9,8 +9,8 @@ use lib.ListN.{getElem?}
 use Rattle.zone.proofs.Bools.{by-test}
 use Rattle.model.specs.Model.{Action, Model}
 use Rattle.model.specs.States.{State, locationAt}
-use Rattle.judge.specs.Choices.{later, allowed?}
-use Rattle.judge.specs.Schedulers.{Move, stop, choose, Scheduler, edgesCount, choiceCount, moveCount, atTarget?, weightedCount}
+use Rattle.acceptance.specs.Choices.{later, allowed?}
+use Rattle.acceptance.specs.Schedulers.{Move, stop, choose, Scheduler, edgesCount, choiceCount, moveCount, atTarget?, weightedCount}
 
 -- what holds of 0, and of what each allowed choice of an action of the present location comes to, holds of what a move comes to
 pub by-move :

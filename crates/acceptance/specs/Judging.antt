@@ -13,8 +13,8 @@ use Rattle.model.specs.States.{locationAt}
 use Rattle.model.specs.Reading.{modelChecks, countsOf, ReadModel}
 use Rattle.table.specs.Table.{Successor, Row, blockedRow, successorRow, Node, Table, tableOf}
 use Rattle.table.specs.Reading.{readChecks}
-use Rattle.judge.specs.Schedulers.{BoundsEvery}
-use Rattle.judge.specs.Acceptance.{
+use Rattle.acceptance.specs.Schedulers.{BoundsEvery}
+use Rattle.acceptance.specs.Acceptance.{
   Reach,
   HasLocation,
   HoldsReach,
@@ -25,9 +25,7 @@ use Rattle.judge.specs.Acceptance.{
   Accepted,
   certified,
 }
-use Rattle.judge.specs.declared.verdict.Certificate.{Certificate}
-use Rattle.judge.specs.declared.verdict.Verdict.{Verdict}
-use Rattle.judge.specs.declared.verdict.Verdict.the-variants as verdict
+use Rattle.acceptance.specs.declared.certificate.Certificate.{Certificate}
 
 -- by successor 17: wrong location, 18: reset reach not inside (each at its B word). `tableOf` gives a successor for each edge and, below, a row for
 -- each action, so neither list ends before the other
@@ -102,24 +100,3 @@ pub record Exactly (model table : List ℕ) (answer : Answer Certificate) : Type
 abbrev pub BoundsSchedulers : List ℕ → Answer Certificate → Type 0
 BoundsSchedulers model (refused n p) = Unit {0}
 BoundsSchedulers model (accepted c) = BoundsEvery (modelOf model) (c .b) (c .whole)
-
--- what each case of a verdict says in the document's numbers and values
-unfoldable pub verdictAnswer : Verdict → Answer Certificate
-verdictAnswer (verdict.Accepted c) = accepted c
-verdictAnswer (verdict.BadModelKind p) = refused 1 p
-verdictAnswer (verdict.BadModelField p) = refused 2 p
-verdictAnswer (verdict.OverModelLimit p) = refused 3 p
-verdictAnswer (verdict.BadWeights p) = refused 4 p
-verdictAnswer (verdict.NoLocation p) = refused 5 p
-verdictAnswer (verdict.NoStart p) = refused 6 p
-verdictAnswer (verdict.BadTableKind p) = refused 11 p
-verdictAnswer (verdict.BadTableField p) = refused 12 p
-verdictAnswer (verdict.OverTableLimit p) = refused 13 p
-verdictAnswer (verdict.NoNode p) = refused 14 p
-verdictAnswer (verdict.BadTargetValue p) = refused 15 p
-verdictAnswer (verdict.NotBlocked p) = refused 16 p
-verdictAnswer (verdict.WrongLocation p) = refused 17 p
-verdictAnswer (verdict.NotInside p) = refused 18 p
-verdictAnswer (verdict.SumTooLarge p) = refused 19 p
-verdictAnswer (verdict.WrongStart p) = refused 20 p
-verdictAnswer (verdict.StartNotInside p) = refused 21 p

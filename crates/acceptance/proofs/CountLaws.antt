@@ -19,10 +19,10 @@ use Rattle.model.specs.States.{State, locationAt, IsStart}
 use Rattle.model.proofs.ZoneLaws.{All, more}
 use Rattle.model.proofs.WellFormed.{weigh, WellFormed}
 use Rattle.table.specs.Table.{Table}
-use Rattle.judge.specs.Choices.{later, landing, invariant?, throughout?, land?, allowed?}
-use Rattle.judge.specs.Schedulers.{stop, choose, Scheduler, edgesCount, choiceCount, moveCount, atTarget?, weightedCount}
-use Rattle.judge.specs.Acceptance.{Accepted, certified}
-use Rattle.judge.proofs.SchedulerLaws.{by-step, some-one, none-some}
+use Rattle.acceptance.specs.Choices.{later, landing, invariant?, throughout?, land?, allowed?}
+use Rattle.acceptance.specs.Schedulers.{stop, choose, Scheduler, edgesCount, choiceCount, moveCount, atTarget?, weightedCount}
+use Rattle.acceptance.specs.Acceptance.{Accepted, certified}
+use Rattle.acceptance.proofs.SchedulerLaws.{by-step, some-one, none-some}
 
 -- ---- a weighted count is a part of D to the power n
 

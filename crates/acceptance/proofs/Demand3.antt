@@ -15,10 +15,10 @@ use Rattle.zone.proofs.Attained.{delayed-zero}
 use Rattle.model.specs.Model.{Edge, Action, Model}
 use Rattle.model.specs.States.{State, locationAt, IsStart}
 use Rattle.table.specs.Table.{Successor, Row, blockedRow, successorRow, Table, nodeAt, rowActions}
-use Rattle.judge.specs.Choices.{later, landing, invariant?, throughout?, land?, allowed?}
-use Rattle.judge.specs.Schedulers.{Scheduler, edgesCount, atTarget?, weightedCount, BoundsEvery}
-use Rattle.judge.specs.Acceptance.{Reach, Pairwise, rowSum, SuccessorFits, RowFits, startValuations, Accepted, certified}
-use Rattle.judge.proofs.SchedulerLaws.{by-step, some-one, none-some}
+use Rattle.acceptance.specs.Choices.{later, landing, invariant?, throughout?, land?, allowed?}
+use Rattle.acceptance.specs.Schedulers.{Scheduler, edgesCount, atTarget?, weightedCount, BoundsEvery}
+use Rattle.acceptance.specs.Acceptance.{Reach, Pairwise, rowSum, SuccessorFits, RowFits, startValuations, Accepted, certified}
+use Rattle.acceptance.proofs.SchedulerLaws.{by-step, some-one, none-some}
 
 -- the node numbered n holds the state s
 record Holds (W : Table) (k n : ℕ) (s : State) : Type 0 where

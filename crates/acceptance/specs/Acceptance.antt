@@ -9,7 +9,7 @@ use Rattle.zone.specs.Moves.{ResetOf}
 use Rattle.model.specs.Model.{Edge, Action, Model}
 use Rattle.model.specs.States.{State, locationAt, IsState, IsStart}
 use Rattle.table.specs.Table.{Successor, Row, blockedRow, successorRow, Node, Table, nodeAt, rowActions}
-use Rattle.judge.specs.Choices.{later, allowed?}
+use Rattle.acceptance.specs.Choices.{later, allowed?}
 
 -- a row's reach: every valuation, before resets, that an allowed choice of its action attains from a state in the node's zone
 pub record Reach (M : Model) (N : Node) (A : Action) (k : ℕ) (v : Valuation) : Type 0 where

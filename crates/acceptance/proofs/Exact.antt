@@ -11,11 +11,11 @@ use Rattle.model.proofs.WellFormed.{accepted-formed}
 use Rattle.table.specs.Table.{Table, tableOf}
 use Rattle.table.specs.Reading.{readChecks}
 use Rattle.table.proofs.Shape.{shaped}
-use Rattle.judge.specs.Schedulers.{BoundsEvery}
-use Rattle.judge.specs.Judging.{tableChecks, judgeChecks, certificateOf, Judged, Certifies, Exactly, BoundsSchedulers}
-use Rattle.judge.specs.declared.verdict.Certificate.{Certificate}
-use Rattle.judge.proofs.Demand3.{demand-3}
-use Rattle.judge.proofs.Agreement.{checks-accept, accept-checks}
+use Rattle.acceptance.specs.Schedulers.{BoundsEvery}
+use Rattle.acceptance.specs.Judging.{tableChecks, judgeChecks, certificateOf, Judged, Certifies, Exactly, BoundsSchedulers}
+use Rattle.acceptance.specs.declared.certificate.Certificate.{Certificate}
+use Rattle.acceptance.proofs.Demand3.{demand-3}
+use Rattle.acceptance.proofs.Agreement.{checks-accept, accept-checks}
 
 module _ (model table : List ℕ) where
   abbrev M : Model

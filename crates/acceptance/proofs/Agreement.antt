@@ -17,8 +17,8 @@ use Rattle.table.specs.Fields.{numberOf}
 use Rattle.table.specs.Table.{Successor, Row, blockedRow, successorRow, Node, noNode, Table, nodeAt, successorsOf, rowsOf, rowActions}
 use Rattle.table.specs.Scan.{rowSize}
 use Rattle.table.proofs.Shape.{RowStands, RowsStand, NodeShaped, Shaped}
-use Rattle.judge.specs.Acceptance.{Pairwise, rowSum, SuccessorFits, RowFits, NodeFits, Accepted}
-use Rattle.judge.specs.Judging.{successorChecks, rowChecks, rowsChecks, nodeChecks, nodesChecks, startChecks, tableChecks}
+use Rattle.acceptance.specs.Acceptance.{Pairwise, rowSum, SuccessorFits, RowFits, NodeFits, Accepted}
+use Rattle.acceptance.specs.Judging.{successorChecks, rowChecks, rowsChecks, nodeChecks, nodesChecks, startChecks, tableChecks}
 
 -- ---- the rows of words that pass: one for each action, with a successor for each edge, which names one of so many nodes
 
