@@ -22,7 +22,7 @@ for compiler in 'gcc -std=c99' 'g++ -std=c++11'; do # g++ takes a .c file as C++
 done
 echo '== ./judge'
 tests/judge_script.sh
-echo '== the reading'
+echo "== the reading's tests, the self-check, the cases' parser, standard input"
 cargo test --release --quiet --locked --offline --manifest-path tests/Cargo.toml
 echo '== the cases'
 cargo run --release --quiet --locked --offline --manifest-path tests/Cargo.toml --bin cases

@@ -7,10 +7,11 @@ use crate::reading::{Bound, Certificate, Counts, Refusal};
 use crate::sides::Side;
 use crate::{spell, worked};
 
-/// The last word that the program takes has index 16,383.
+/// How many words the program takes at most.
 pub const LONGEST: usize = 16_384;
 
-/// A line of the figures. A number is one of words.
+/// A line of the figures. The number of the last four is how many words the table, the model, the
+/// zone or both zones together have.
 #[derive(Clone, Copy)]
 pub enum Shape {
     Worked,
@@ -24,10 +25,10 @@ pub enum Shape {
 
 /// The lines, in the order in which they are printed.
 pub fn all() -> Vec<Shape> {
-    let full = |(clocks, nodes)| Shape::Full { clocks, nodes };
     let mut shapes = vec![Shape::Worked];
-    shapes.extend([(1, 64), (2, 64), (3, 64), (4, 64)].map(full));
-    shapes.extend([(1, 1), (1, 8), (4, 1), (4, 8)].map(full));
+    for clocks in 1..=4 {
+        shapes.extend([1, 8, 64].map(|nodes| Shape::Full { clocks, nodes }));
+    }
     shapes.push(Shape::LongestFile);
     for words in [10_000, 100_000, 1_000_000] {
         shapes.extend([
@@ -52,7 +53,7 @@ impl Shape {
                 );
             }
             Shape::LongestFile => "judge, longest file",
-            Shape::LongTable(_) => "judge",
+            Shape::LongTable(_) => "judge, long run of bounds",
             Shape::LongModel(_) => "read a model",
             Shape::LongZone(_) => "is a zone empty",
             Shape::LongZones(_) => "one zone inside another",

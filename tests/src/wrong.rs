@@ -52,6 +52,10 @@ pub fn all() -> Vec<Wrong> {
     all.extend([1, 2, 3, 4, 5, 6].map(misplaced_in_model));
     all.extend((11..=21).map(misplaced_in_table));
     all.extend([31, 32, 33].map(misplaced_in_question));
+    for (one, other) in [(1, 11), (2, 12), (17, 18), (20, 21)] {
+        all.push(exchanged_in_judging(one, other));
+    }
+    all.push(exchanged_in_question(32, 33));
     all
 }
 
@@ -233,6 +237,34 @@ fn misplaced_in_question(number: u32) -> Wrong {
     Wrong {
         zone_inside: Box::new(inside),
         ..right(&format!("misplaces {number}"))
+    }
+}
+
+fn exchanged(refusal: Refusal, one: u32, other: u32) -> Refusal {
+    let number = match refusal.number {
+        number if number == one => other,
+        number if number == other => one,
+        number => number,
+    };
+    Refusal { number, ..refusal }
+}
+
+/// Each of two numbers where the other is due, at the right place.
+fn exchanged_in_judging(one: u32, other: u32) -> Wrong {
+    let name = format!("exchanges {one} and {other}");
+    with_judge(&name, move |model, table| {
+        reading::judge(model, table).map_err(|refusal| exchanged(refusal, one, other))
+    })
+}
+
+fn exchanged_in_question(one: u32, other: u32) -> Wrong {
+    let inside = move |clocks, first: &[u32], second: &[u32]| {
+        reading::zone_inside(clocks, first, second)
+            .map_err(|refusal| exchanged(refusal, one, other))
+    };
+    Wrong {
+        zone_inside: Box::new(inside),
+        ..right(&format!("exchanges {one} and {other}"))
     }
 }
 

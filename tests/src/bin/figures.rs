@@ -1,4 +1,4 @@
-//! Prints the figures of the README, as Markdown. Meant for a release build.
+//! Prints the figures of docs/FIGURES.md, as Markdown. Meant for a release build.
 //!
 //! `figures`: how long a call takes with the judge, the reading and the plain judge.
 //! `figures --instructions`: how many instructions it needs, where valgrind is there.
@@ -125,7 +125,7 @@ fn grouped(number: u64) -> String {
     let digits = number.to_string();
     let mut text = String::new();
     for (place, digit) in digits.chars().enumerate() {
-        if place > 0 && (digits.len() - place).is_multiple_of(3) {
+        if place > 0 && (digits.len() - place) % 3 == 0 {
             text.push(',');
         }
         text.push(digit);

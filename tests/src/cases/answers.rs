@@ -83,6 +83,7 @@ mod tests {
             "ACCEPTED 1 10",
             "REFUSED 19",
             "REFUSED 19 -4",
+            "REFUSED 19 04",
             "19 4",
         ] {
             assert!(answer(text).is_err(), "{text}");

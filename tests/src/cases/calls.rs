@@ -153,6 +153,10 @@ mod tests {
             ("read_model(none, none)", "2 parts are wrong for read_model"),
             ("zone_empty(x, none)", "'x' is no number"),
             ("zone_empty(4294967296, none)", "is no number"),
+            (
+                "zone_empty(0001, none)",
+                "'0001' is no number: it has a leading zero",
+            ),
             ("judge(none, )", "words are lacking"),
         ] {
             let wrong = call(text, &Named::new()).expect_err(text);

@@ -15,13 +15,15 @@ struct Slot {
 struct Changed {
     /// One for each word, and one for what is put in behind the last.
     slots: Vec<Slot>,
-    /// How many words stay, and how far the changes reach.
-    left: usize,
+    /// How many words a cut leaves, if there is one.
+    left: Option<usize>,
+    /// How far the changes reach.
     reached: usize,
 }
 
 /// A list with its changes: `3=W` exchanges word 3, `3+W` puts W in before it, `3^W` flips the bits of
-/// W in it, `-3` takes it out, `..3` leaves words 0 to 2.
+/// W in it, `-3` takes it out, `..3` leaves words 0 to 2. A list is cut once, and a word exchanged,
+/// flipped or taken out once.
 pub fn changed(words: &[u32], changes: &str) -> Result<Vec<u32>, String> {
     let slot = |&word: &u32| Slot {
         word: Some(word),
@@ -31,7 +33,7 @@ pub fn changed(words: &[u32], changes: &str) -> Result<Vec<u32>, String> {
     slots.push(Slot::default());
     let mut list = Changed {
         slots,
-        left: words.len(),
+        left: None,
         reached: 0,
     };
     if changes.trim().is_empty() {
@@ -47,11 +49,7 @@ pub fn changed(words: &[u32], changes: &str) -> Result<Vec<u32>, String> {
 impl Changed {
     fn change(&mut self, change: &str) -> Result<(), String> {
         if let Some(left) = change.strip_prefix("..") {
-            self.left = number(left)?;
-            return match self.left < self.slots.len() {
-                true => Ok(()),
-                false => Err("the list is shorter".to_string()),
-            };
+            return self.cut(number(left)?);
         }
         if let Some(place) = change.strip_prefix('-') {
             return self.exchange(number(place)?, |_| None);
@@ -64,6 +62,16 @@ impl Changed {
             "=" => self.exchange(place, |_| Some(new)),
             "^" => self.exchange(place, |old| Some(old ^ new)),
             _ => self.put_in(place, new),
+        }
+    }
+
+    fn cut(&mut self, left: usize) -> Result<(), String> {
+        if left >= self.slots.len() {
+            return Err("the list is shorter".to_string());
+        }
+        match self.left.replace(left) {
+            Some(_) => Err("the list is cut twice".to_string()),
+            None => Ok(()),
         }
     }
 
@@ -88,10 +96,11 @@ impl Changed {
     }
 
     fn words(mut self) -> Result<Vec<u32>, String> {
-        if self.reached > self.left {
+        let left = self.left.unwrap_or(self.slots.len() - 1);
+        if self.reached > left {
             return Err("a word that is cut off is changed".to_string());
         }
-        self.slots.truncate(self.left + 1);
+        self.slots.truncate(left + 1);
         if let Some(last) = self.slots.last_mut() {
             last.word = None;
         }
@@ -142,6 +151,10 @@ mod tests {
             ("1:00000007", "no change is written so"),
             ("-1 1=00000007", "word 1 is changed twice"),
             ("..1 2=00000007", "a word that is cut off"),
+            ("..3 ..0", "change ..0: the list is cut twice"),
+            ("..2 ..2", "the list is cut twice"),
+            ("01=00000007", "'01' is no number: it has a leading zero"),
+            ("..00", "'00' is no number: it has a leading zero"),
         ] {
             let wrong = of_three(changes).expect_err(changes);
             assert!(wrong.contains(told), "{changes}: {wrong}");

@@ -2,8 +2,9 @@
 //! and the answer of document 01.
 //!
 //! `lines` takes a text apart, `words` reads lists of words, `changes` the changes in one, `calls` the
-//! calls and `answers` what they answer; `files` puts the cases together. `run` asks the judge under
-//! test and the independent reading. `tests/cases/README.md` says how the lines are written.
+//! calls and `answers` what they answer; `files` puts the cases together. `run` asks the library, the
+//! independent reading and the plain judge and, where the words are a whole file, the program.
+//! `tests/cases/README.md` says how the lines are written.
 
 pub mod answers;
 pub mod calls;

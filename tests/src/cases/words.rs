@@ -32,8 +32,11 @@ pub fn word(text: &str) -> Result<u32, String> {
     u32::from_str_radix(text, 16).map_err(|error| format!("'{text}': {error}"))
 }
 
-/// Reads a number in base ten.
+/// Reads a number in base ten, without leading zeros.
 pub fn number<N: std::str::FromStr>(text: &str) -> Result<N, String> {
+    if text.len() > 1 && text.starts_with('0') {
+        return Err(format!("'{text}' is no number: it has a leading zero"));
+    }
     let digits = text.chars().all(|digit| digit.is_ascii_digit());
     let number = if digits { text.parse().ok() } else { None };
     number.ok_or_else(|| format!("'{text}' is no number"))
@@ -167,6 +170,7 @@ mod tests {
             ("M*", "'' is no number"),
             ("M*x", "'x' is no number"),
             ("M*0", "0 times 3 words"),
+            ("M*02", "'02' is no number: it has a leading zero"),
             ("M*99999999", "99999999 times"),
             ("M*6000 M*6000", "more than 20000 words"),
         ] {

@@ -76,7 +76,7 @@ pub fn zone_inside(clocks: u32, first: &[u32], second: &[u32]) -> Result<bool, R
 /// The zone of a list of bounds and nothing else, or a refusal with this number.
 fn zone_of(clocks: u32, words: &[u32], number: u32) -> Result<Zone, Refusal> {
     let mut zone = Zone::ALL;
-    let end = zone.take_bounds((clocks, false), words, 0, number)?;
+    let end = zone.take_bounds(clocks, false, words, 0, number)?;
     demand(end == words.len(), number, end)?;
     Ok(zone)
 }

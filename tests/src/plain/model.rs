@@ -119,7 +119,7 @@ impl Model {
             START => &mut self.start.zone,
             _ => return Ok(place),
         };
-        zone.take_bounds((self.clocks, opener != START), words, place, 2)
+        zone.take_bounds(self.clocks, opener != START, words, place, 2)
     }
 
     fn good_fields(&self, word: u32) -> bool {

@@ -18,12 +18,12 @@ pub fn program(bytes: &[u8]) -> String {
 
 fn judge_bytes(bytes: &[u8]) -> Result<Certificate, Refusal> {
     demand(bytes.len() <= MOST_BYTES, 42, 0)?;
-    let (fours, rest) = bytes.as_chunks();
-    demand(rest.is_empty(), 41, 0)?;
+    let fours = bytes.chunks_exact(4);
+    demand(fours.remainder().is_empty(), 41, 0)?;
     let mut room = [0; MOST_BYTES / 4];
     let words = &mut room[..fours.len()];
-    for (word, &four) in words.iter_mut().zip(fours) {
-        *word = u32::from_be_bytes(four);
+    for (word, four) in words.iter_mut().zip(fours) {
+        *word = u32::from_be_bytes([four[0], four[1], four[2], four[3]]);
     }
     let table = words.iter().position(|word| word >> 28 == 7);
     let (model, table) = words.split_at(table.unwrap_or(words.len()));

@@ -74,7 +74,7 @@ impl Table {
         });
         let node = self.nodes.newest();
         let zone = &mut node.zone;
-        let place = zone.take_bounds((model.clocks, false), words, place + 1, 12)?;
+        let place = zone.take_bounds(model.clocks, false, words, place + 1, 12)?;
         (node.value, node.value_place) = (fields(words, place, VALUE)?, place);
         demand(node.value <= self.whole, 12, place)?;
         let location = &model.locations[number];

@@ -33,7 +33,8 @@ impl Zone {
     /// no good bound is refused with this number; where `single`, one of its clocks must be clock 0.
     pub fn take_bounds(
         &mut self,
-        (clocks, single): (u32, bool),
+        clocks: u32,
+        single: bool,
         words: &[u32],
         mut place: usize,
         number: u32,

@@ -23,7 +23,7 @@ fn judge_bytes(bytes: &[u8]) -> Result<Certificate, Refusal> {
             place: 0,
         });
     }
-    if !bytes.len().is_multiple_of(4) {
+    if bytes.len() % 4 != 0 {
         return Err(Refusal {
             number: 41,
             place: 0,
