@@ -3,8 +3,8 @@ ghost use mathlib.Core.Path.{_≡_};
 ghost use Rattle.judge.specs.Verdicts.{verdictAnswer};
 ghost use Rattle.zone.specs.Checks.{refused};
 ghost use Rattle.judge.specs.Numbers.{numbered};
-use acceptance::certificate::Certificate;
 use crate::verdict::Verdict;
+use acceptance::certificate::Certificate;
 
 // A verdict in document 01's numbers: the number of a refusal and its place, or 0 and what an acceptance gives.
 pub struct Numbered {
