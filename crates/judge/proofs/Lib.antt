@@ -12,5 +12,5 @@ pub mod Handing
 pub mod Answering
 pub mod Computing
 pub mod Cases
-pub mod OneAnswer
 pub mod Numbering
+pub mod OneAnswer

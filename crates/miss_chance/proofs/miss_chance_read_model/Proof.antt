@@ -4,9 +4,6 @@ use Rattle.miss_chance.proofs.ReplyLaws.{not-written, written}
 use Rattle.miss_chance.proofs.miss_chance_read_model.Statement.{statement}
 use Rattle.miss_chance.proofs.miss_chance_read_model.Tie as tie
 
-returns : tie.Need-returns
-returns c = not-written _ _ _ (c .if1 .taken)
-
 returns-2 : tie.Need-returns-2
 returns-2 c =
     let told = c .before .before .before .before in
@@ -17,4 +14,4 @@ returns-2 c =
 pub miss-chance-read-model-spec : {M : Type 1} → statement M
 miss-chance-read-model-spec =
     tie.close
-    (tie.spec returns (λ c κs. search needs) (λ c κs. search needs) (λ c κs. search needs) (λ c. search needs) returns-2)
+    (tie.spec (λ c. not-written _ _ _ (c .if1 .taken)) (λ c κs. search needs) (λ c κs. search needs) (λ c κs. search needs) (λ c. search needs) returns-2)
