@@ -1,4 +1,5 @@
-//! How many instructions a call needs, counted by valgrind's callgrind: unlike times, counts repeat.
+//! How many instructions a call needs and how many conditional branches it meets, counted by valgrind's callgrind: unlike
+//! times, counts repeat.
 
 use std::process::{Command, Stdio};
 
@@ -19,33 +20,62 @@ pub fn has_valgrind() -> bool {
 const BY_VECTORS: &str =
     "glibc.cpu.x86_rep_movsb_threshold=0x7fffffff:glibc.cpu.x86_rep_stosb_threshold=0x7fffffff";
 
-/// Instructions for one call of a side on the line of this number. What a run of the program needs
+/// What callgrind counts: instructions, conditional branches, and those of them that its predictor missed.
+#[derive(Clone, Copy)]
+pub struct Counts {
+    pub instructions: u64,
+    pub branches: u64,
+    pub missed: u64,
+}
+
+/// The counts for one call of a side on the line of this number. What a run of the program needs
 /// besides, and what first calls need, is in the run with fewer calls as well, and falls out.
-pub fn per_call(line: usize, side: &str, input: &Input) -> Result<u64, Fault> {
+pub fn per_call(line: usize, side: &str, input: &Input) -> Result<Counts, Fault> {
     let calls = 1 + 20_000 / input.words() as u64;
     let fewer = of_run(line, side, calls)?;
     let more = of_run(line, side, 2 * calls)?;
-    Ok((more - fewer) / calls)
+    let each = |fewer: u64, more: u64| more.saturating_sub(fewer) / calls;
+    Ok(Counts {
+        instructions: each(fewer.instructions, more.instructions),
+        branches: each(fewer.branches, more.branches),
+        missed: each(fewer.missed, more.missed),
+    })
 }
 
-/// Instructions of a whole run of this program with so many calls.
-fn of_run(line: usize, side: &str, calls: u64) -> Result<u64, Fault> {
+/// The counts of a whole run of this program with so many calls.
+fn of_run(line: usize, side: &str, calls: u64) -> Result<Counts, Fault> {
     let fault = |what: &str| Fault(format!("callgrind, line {line}, {side}: {what}"));
     let program = std::env::current_exe().map_err(|error| fault(&error.to_string()))?;
     let output = Command::new("valgrind")
         .args(["--tool=callgrind", "--callgrind-out-file=/dev/null"])
+        .arg("--branch-sim=yes")
         .arg(program)
         .args(["--once", &line.to_string(), side, &calls.to_string()])
         .env("GLIBC_TUNABLES", BY_VECTORS)
         .output();
     let output = output.map_err(|error| fault(&error.to_string()))?;
     let said = String::from_utf8_lossy(&output.stderr);
-    let collected = said
-        .lines()
-        .find_map(|line| line.split_once("Collected : "));
-    let count = collected.and_then(|(_, count)| count.trim().parse().ok());
     match output.status.success() {
-        true => count.ok_or_else(|| fault(&said)),
+        true => collected(&said).ok_or_else(|| fault(&said)),
         false => Err(fault(&said)),
+    }
+}
+
+/// The numbers of callgrind's line `Collected : Ir Bc Bcm Bi Bim`.
+fn collected(said: &str) -> Option<Counts> {
+    let (_, numbers) = said
+        .lines()
+        .find_map(|line| line.split_once("Collected : "))?;
+    let numbers: Vec<u64> = numbers
+        .split_whitespace()
+        .map_while(|number| number.parse().ok())
+        .collect();
+    match numbers[..] {
+        [instructions, branches, missed, _, _] => Some(Counts {
+            instructions,
+            branches,
+            missed,
+        }),
+        _ => None,
     }
 }

@@ -8,10 +8,10 @@ use lib.Dec.{T}
 use lib.ListN.{getD, length}
 use Rattle.zone.specs.Scale.{Valuation, Zone, in?, Region, within, Empty, Inside}
 use Rattle.zone.specs.Moves.{delayed, ResetOf}
-use Rattle.zone.specs.Squares.{Small, universe, met, tightened, delayedSquare, beforeReset, resetSquare, reached, empty?, inside?}
+use Rattle.zone.specs.Squares.{Tightens, universe, met, tightened, delayedSquare, beforeReset, resetSquare, reached, empty?, inside?}
 use Rattle.zone.specs.declared.zones.Zone.{Zone as Square}
 use Rattle.zone.proofs.Bools.{true-false, both, and}
-use Rattle.zone.proofs.Sizes.{small-met, small-before}
+use Rattle.zone.proofs.Sizes.{small-met, small-before, tightens-fewer}
 use Rattle.zone.proofs.SquareTables.{met-assoc}
 use Rattle.zone.proofs.Regions.{Stands, inBoth, stands-same, stands-met}
 use Rattle.zone.proofs.Attained.{Attained, between, reached-empty-yes, reached-empty-no, reset-inside-yes, reset-inside-no, stands-before}
@@ -21,7 +21,7 @@ use Rattle.model.specs.States.{State, locationAt}
 use Rattle.model.specs.Index.{noEdge}
 use Rattle.model.specs.Indexed.{Each, withBounds, EdgeAt, ActionAt, Indexed}
 use Rattle.model.specs.declared.read.ModelRead.{ModelRead}
-use Rattle.model.proofs.ZoneLaws.{All, more, GoodZone, stands-bounds, small-bounds}
+use Rattle.model.proofs.ZoneLaws.{All, more, GoodZone, stands-bounds, tightens-bounds}
 use Rattle.model.proofs.GoodModel.{GoodAction, GoodModel}
 use Rattle.model.proofs.IndexLaws.{location-at, invariant-stands, guard-stands}
 use Rattle.model.proofs.WellFormed.{FormedEdge}
@@ -88,11 +88,11 @@ module _ {M : Model} {r : ModelRead} (x : Indexed M r) (good : GoodModel M) wher
   unfolding enabledSquare
   enabled-stands n {a} {A} i g f = rw (counted i) (landings-stand n (getD (r .index .edges) a 0) (A .edges) (i .edges) f (guard-stands i g))
 
-  landings-small : {z : Square} (e : ℕ) (es : List Edge) → Each (EdgeAt r) e es → All (FormedEdge M) es → Small 4096 z →
-      Small 4096 (withLandings (r .zones) (r .index .words) (length es) e z)
+  landings-tighten : {z : Square} (e : ℕ) (es : List Edge) → Each (EdgeAt r) e es → All (FormedEdge M) es → Tightens 3 z →
+      Tightens 3 (withLandings (r .zones) (r .index .words) (length es) e z)
   unfolding withLandings withLanding Each
-  landings-small e [] h f s = s
-  landings-small {z} e (E ∷ es) h (more f fs) s = landings-small (suc e) es (h .1) fs (small-met z s _ (small-before _ lands _))
+  landings-tighten e [] h f s = s
+  landings-tighten {z} e (E ∷ es) h (more f fs) s = landings-tighten (suc e) es (h .1) fs (small-met z s _ (small-before _ (omega arith) lands _))
     where
       w : ℕ
       w = getD (r .index .words) e noEdge .word
@@ -100,14 +100,14 @@ module _ {M : Model} {r : ModelRead} (x : Indexed M r) (good : GoodModel M) wher
       to : landsAt w ≡ E .to
       to = ap (λ (F : Edge). F .to) (h .0 .reads)
 
-      lands : Small 4096 (getD (r .zones) (landsAt w) universe)
-      lands = rw (to, location-at x (E .to) (f .to) .invariant) (small-bounds (locationAt M (E .to) .invariant) (good .invariants (E .to)))
+      lands : Tightens 3 (getD (r .zones) (landsAt w) universe)
+      lands = rw (to, location-at x (E .to) (f .to) .invariant) (tightens-bounds (locationAt M (E .to) .invariant) (good .invariants (E .to)))
 
-  pub enabled-small : {a : ℕ} {A : Action} → ActionAt r a A → GoodAction A → All (FormedEdge M) (A .edges) →
-      Small 4096 (enabledSquare (r .index) (r .zones) a)
+  pub enabled-tightens : {a : ℕ} {A : Action} → ActionAt r a A → GoodAction A → All (FormedEdge M) (A .edges) →
+      Tightens 3 (enabledSquare (r .index) (r .zones) a)
   unfolding enabledSquare
-  enabled-small {a} {A} i g f =
-      rw (counted i) (landings-small (getD (r .index .edges) a 0) (A .edges) (i .edges) f (rw (i .guard) (small-bounds (A .guard) (g .guard))))
+  enabled-tightens {a} {A} i g f =
+      rw (counted i) (landings-tighten (getD (r .index .edges) a 0) (A .edges) (i .edges) f (rw (i .guard) (tightens-bounds (A .guard) (g .guard))))
 
   -- ---- a row
   module _
@@ -135,6 +135,15 @@ module _ {M : Model} {r : ModelRead} (x : Indexed M r) (good : GoodModel M) wher
 
       ends-stand : Stands ends endTable
       ends-stand = stands-met (invariant-stands x good (N .location) l) (enabled-stands (N .location) i g f)
+
+      invariant-tightens : Tightens 3 (getD (r .zones) (N .location) universe)
+      invariant-tightens = rw (location-at x (N .location) l .invariant) (tightens-bounds invariant (good .invariants (N .location)))
+
+      starts-tighten : Tightens 2 startTable
+      starts-tighten = tightens-fewer 2 3 startTable (omega arith) (small-met _ (tightens-bounds (N .zone) z) _ invariant-tightens)
+
+      ends-tighten : Tightens 1 endTable
+      ends-tighten = tightens-fewer 1 3 endTable (omega arith) (small-met _ invariant-tightens _ (enabled-tightens i g f))
 
       -- the reach is what a delay attains
       reach-attained : (k : ℕ) (v : Valuation) → Reach M N A k v → Attained starts ends k v
@@ -193,12 +202,12 @@ module _ {M : Model} {r : ModelRead} (x : Indexed M r) (good : GoodModel M) wher
 
       pub blocked-yes : empty? rowReach ≡ true → Empty (Reach M N A)
       blocked-yes e = record {
-        at = λ k k₁ v p. reached-empty-yes starts-stand ends-stand (sym (ap empty? same) ∙ e) .at k k₁ v (reach-attained k v p);
+        at = λ k k₁ v p. reached-empty-yes starts-tighten ends-tighten starts-stand ends-stand (sym (ap empty? same) ∙ e) .at k k₁ v (reach-attained k v p);
       }
 
       pub blocked-no : empty? rowReach ≡ false → Empty (Reach M N A) → ⊥
       blocked-no e m =
-          reached-empty-no starts-stand ends-stand (sym (ap empty? same) ∙ e) (record { at = λ k k₁ v p. m .at k k₁ v (attained-reach k v p) })
+          reached-empty-no starts-tighten ends-tighten starts-stand ends-stand (sym (ap empty? same) ∙ e) (record { at = λ k k₁ v p. m .at k k₁ v (attained-reach k v p) })
 
       -- the reach with masked clocks set to 0 lies in the zone S
       module _ (mask : ℕ) (S : Zone) (s : GoodZone S) where
@@ -213,7 +222,7 @@ module _ {M : Model} {r : ModelRead} (x : Indexed M r) (good : GoodModel M) wher
             by true e _ = record { at = λ k k₁ v p. absurd (blocked-yes e .at k k₁ (p .before) (p .was)) }
             by false e h = record {
               at = λ k k₁ v p.
-                  reset-inside-yes starts-stand ends-stand (stands-bounds S s) mask (sym (ap lies? same) ∙ h) .at k k₁ v
+                  reset-inside-yes starts-tighten ends-tighten starts-stand ends-stand (stands-bounds S s) mask (sym (ap lies? same) ∙ h) .at k k₁ v
                   (record { before = p .before; was = reach-attained k (p .before) (p .was); lands = p .lands });
             }
 
@@ -224,7 +233,7 @@ module _ {M : Model} {r : ModelRead} (x : Indexed M r) (good : GoodModel M) wher
             by : (c : Bool) → empty? rowReach ≡ c → (c || lies? rowReach) ≡ false → Inside (ResetOf mask (Reach M N A)) (within S) → ⊥
             by true _ h m = true-false h
             by false e h m =
-                reset-inside-no starts-stand ends-stand (stands-bounds S s) mask (sym (ap empty? same) ∙ e) (sym (ap lies? same) ∙ h)
+                reset-inside-no starts-tighten ends-tighten starts-stand ends-stand (stands-bounds S s) mask (sym (ap empty? same) ∙ e) (sym (ap lies? same) ∙ h)
                 (record {
                   at = λ k k₁ v p. m .at k k₁ v (record { before = p .before; was = attained-reach k (p .before) (p .was); lands = p .lands });
                 })

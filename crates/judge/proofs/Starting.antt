@@ -4,7 +4,7 @@ use mathlib.Core.Path.{_≡_, refl, sym, ap, _∙_}
 use mathlib.Core.Bool.{Bool, true, false}
 use lib.ListN.{getD, length}
 use Rattle.zone.specs.Scale.{Valuation, Zone, within, Inside}
-use Rattle.zone.specs.Squares.{universe, met, tightened, empty?, inside?}
+use Rattle.zone.specs.Squares.{universe, met, tightened, empty?, inside?, Tightens}
 use Rattle.zone.specs.declared.zones.Zone.{Zone as Square}
 use Rattle.zone.proofs.Regions.{Stands, inside-yes, inside-no}
 use Rattle.model.specs.Model.{Model}
@@ -15,7 +15,7 @@ use Rattle.model.specs.declared.read.ModelRead.{ModelRead}
 use Rattle.model.proofs.ZoneLaws.{GoodZone, stands-bounds}
 use Rattle.model.proofs.GoodModel.{GoodModel}
 use Rattle.model.proofs.IndexLaws.{location-at}
-use Rattle.model.proofs.Starting.{startRegion, start-met, start-no}
+use Rattle.model.proofs.Starting.{startRegion, start-met, start-fits, start-no}
 use Rattle.acceptance.specs.Acceptance.{startValuations}
 
 module _ {M : Model} {r : ModelRead} (x : Indexed M r) (good : GoodModel M) (l : M .start < length (M .locations)) where
@@ -28,6 +28,9 @@ module _ {M : Model} {r : ModelRead} (x : Indexed M r) (good : GoodModel M) (l :
 
   stands : Stands (startRegion M) bounds
   stands = start-met M (r .zones) good invariant (x .startBounds)
+
+  fits : Tightens 1 bounds
+  fits = start-fits M (r .zones) good invariant (x .startBounds)
 
   initial : r .initial ≡ startSquare (M .start) (r .zones)
   initial = x .initial ∙ ap (λ n. startSquare n (r .zones)) (x .start)
@@ -56,10 +59,10 @@ module _ {M : Model} {r : ModelRead} (x : Indexed M r) (good : GoodModel M) (l :
     pub start-inside-yes : inside? (r .initial) (withBounds S universe) ≡ true → Inside (startValuations M) (within S)
     start-inside-yes e = record {
       at = λ k k₁ v p.
-          inside-yes stands (stands-bounds S s) (sym (ap (λ z. inside? z (withBounds S universe)) tight) ∙ e) .at k k₁ v (starts-in k v p);
+          inside-yes fits stands (stands-bounds S s) (sym (ap (λ z. inside? z (withBounds S universe)) tight) ∙ e) .at k k₁ v (starts-in k v p);
     }
 
     pub start-inside-no : inside? (r .initial) (withBounds S universe) ≡ false → Inside (startValuations M) (within S) → ⊥
     start-inside-no e m =
-        inside-no stands (stands-bounds S s) (sym (ap empty? tight) ∙ filled) (sym (ap (λ z. inside? z (withBounds S universe)) tight) ∙ e)
+        inside-no fits stands (stands-bounds S s) (sym (ap empty? tight) ∙ filled) (sym (ap (λ z. inside? z (withBounds S universe)) tight) ∙ e)
         (record { at = λ k k₁ v p. m .at k k₁ v (in-starts k v p) })

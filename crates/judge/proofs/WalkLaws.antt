@@ -9,7 +9,7 @@ use native.Mathlib.Omega.{arith}
 use borrow.Author.Tests.{eq-eqb, ne-eqb, le-leb, lt-leb}
 use lib.ListN.{length, getD}
 use Rattle.zone.specs.Words.{kind}
-use Rattle.zone.specs.Squares.{universe, empty?, Small}
+use Rattle.zone.specs.Squares.{universe, empty?, Tightens}
 use Rattle.zone.specs.declared.zones.Zone.{Zone as Square}
 use Rattle.model.specs.TableKinds.{blocked, tableNumber}
 use Rattle.model.specs.Fields.{weightOf}
@@ -25,7 +25,7 @@ use Rattle.judge.specs.Reaching.{EdgesFit, waitedSquare, reachSquare}
 use Rattle.judge.specs.Walk.{successorFinding, orElse, successorsFrom, rowsFrom, nodesFrom, walked, RowsInRange, NodeInRange}
 use Rattle.judge.specs.declared.walk.Finding.{Finding}
 use Rattle.judge.specs.declared.walk.Finding.the-variants as finding
-use Rattle.judge.proofs.ReachSizes.{waited-small}
+use Rattle.judge.proofs.ReachSizes.{waited-tightens}
 
 -- a finding stands, whatever comes behind it
 found-first : (f g : Finding) → (f ≡ finding.None → ⊥) → f ≡ orElse f g
@@ -84,7 +84,7 @@ module _ (words : List ℕ) (r : ModelRead) (es : List Square) (t : TableRead) w
   -- before the row of the action a, of those up to `end`, of the node n
   pub record AtRow (n : ℕ) (waited : Square) (limit end : ℕ) (f : Finding) (at a : ℕ) : Type 0 where
     pub none : f ≡ finding.None
-    pub small : Small (2 ^ 17) waited
+    pub tightens : Tightens 2 waited
     pub last : end ≤ 32
     pub fits : RowsInRange words r es t (end - a) a at
     pub onward : walked words r es t ≡ rowsFrom words r es t waited limit (behindNode n) (end - a) a at
@@ -139,7 +139,7 @@ module _ (words : List ℕ) (r : ModelRead) (es : List Square) (t : TableRead) w
       unfolding nodesFrom
       node-rows un fit e = rw (add-one (nodeAt n .place)) (record {
         none = i .none;
-        small = rw e (waited-small (fit .zone) (fit .invariant));
+        tightens = rw e (waited-tightens (fit .zone) (fit .invariant));
         last = fit .actions;
         fits = fit .rows;
         onward = one-node ∙ rw (un, e);
@@ -164,7 +164,7 @@ module _ (words : List ℕ) (r : ModelRead) (es : List Square) (t : TableRead) w
       one-fits : RowsInRange words r es t (suc (end - suc a)) a at
       one-fits = rw (← one-left end a h) (i .fits)
 
-      pub row-asked : Small (2 ^ 12) (getD es a universe)
+      pub row-asked : Tightens 3 (getD es a universe)
       unfolding RowsInRange
       row-asked = one-fits .0
 
@@ -187,7 +187,7 @@ module _ (words : List ℕ) (r : ModelRead) (es : List Square) (t : TableRead) w
             let q : empty? (reachSquare waited (getD es a universe)) ≡ true = ap empty? (sym er) ∙ sym ee ∙ not-false empty is in
             rw (add-one a, ea, add-one at) (record {
               none = ef ∙ i .none;
-              small = i .small;
+              tightens = i .tightens;
               last = i .last;
               fits = rw (eq-eqb _ _ e, add-one at) at (one-fits .3);
               onward = one-row ∙ rw (eq-eqb _ _ e, q);
@@ -263,15 +263,15 @@ module _ (words : List ℕ) (r : ModelRead) (es : List Square) (t : TableRead) w
       sum-large k = sym (none-left ∙ rw (lt-leb _ _ k))
 
       pub row-end :
-          {f′ : Finding} {at′ : ℕ} → f′ ≡ f → at′ ≡ at → sum ≤ limit → Small (2 ^ 17) waited → end ≤ 32 →
+          {f′ : Finding} {at′ : ℕ} → f′ ≡ f → at′ ≡ at → sum ≤ limit → Tightens 2 waited → end ≤ 32 →
           AtRow n waited limit end f′ at′ (a + 1)
       unfolding successorsFrom
-      row-end ef ea k small last′ =
+      row-end ef ea k tightens last′ =
           let p = i .place in
           let q : at ≡ first + edgesAt (r .index) a = omega arith in
           rw (add-one a, ea, q) (record {
             none = ef ∙ i .none;
-            small = small;
+            tightens = tightens;
             last = last′;
             fits = i .fits;
             onward = none-left ∙ rw (le-leb _ _ k);

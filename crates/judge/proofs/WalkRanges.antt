@@ -6,14 +6,14 @@ use mathlib.Core.Bool.{Bool, true, false}
 use mathlib.Core.List.{List, [], _∷_}
 use native.Mathlib.Omega.{arith}
 use lib.ListN.{getD, length, drop, length-drop}
-use Rattle.zone.specs.Squares.{universe, Small}
+use Rattle.zone.specs.Squares.{universe, Tightens}
 use Rattle.zone.specs.declared.zones.Zone.{Zone as Square}
 use Rattle.model.specs.TableKinds.{blocked, isTable}
 use Rattle.model.specs.Model.{Action, Location, Model}
 use Rattle.model.specs.States.{locationAt}
 use Rattle.model.specs.Indexed.{Each, LocationAt, Indexed}
 use Rattle.model.specs.declared.read.ModelRead.{ModelRead}
-use Rattle.model.proofs.ZoneLaws.{small-bounds}
+use Rattle.model.proofs.ZoneLaws.{tightens-bounds}
 use Rattle.model.proofs.GoodModel.{GoodModel}
 use Rattle.model.proofs.WellFormed.{WellFormed}
 use Rattle.model.proofs.IndexLaws.{location-at}
@@ -27,7 +27,7 @@ use Rattle.judge.specs.Reaching.{enabledSquares}
 use Rattle.judge.specs.Walk.{RowsInRange, NodeInRange, WalkInRange}
 use Rattle.judge.proofs.RowLaws.{front, behind, node-at, shaped-at, ActionIs, actions-at, actions-count, edges-at}
 use Rattle.judge.proofs.LandingLaws.{enabled-at}
-use Rattle.judge.proofs.RowReach.{enabled-small}
+use Rattle.judge.proofs.RowReach.{enabled-tightens}
 
 -- the words of a row that stands are there
 row-there : (b : Bool) (nodes edges at : ℕ) (words ws : List ℕ) → drop at words ≡ ws → RowStands nodes b edges ws →
@@ -46,8 +46,8 @@ module _ (M : Model) (words : List ℕ) (r : ModelRead) (t : TableRead) (x : Ind
   abbrev es : List Square
   es = enabledSquares (r .index) (r .zones)
 
-  enabled-in-range : (a : ℕ) (A : Action) → ActionIs M r a A → Small 4096 (getD es a universe)
-  enabled-in-range a A y = rw (enabled-at (r .index) (r .zones) a (y .limit) (y .there)) (enabled-small x good (y .at) (y .good) (y .formed .edges))
+  enabled-in-range : (a : ℕ) (A : Action) → ActionIs M r a A → Tightens 3 (getD es a universe)
+  enabled-in-range a A y = rw (enabled-at (r .index) (r .zones) a (y .limit) (y .there)) (enabled-tightens x good (y .at) (y .good) (y .formed .edges))
 
   rows-in-range :
       (nodes : ℕ) (As : List Action) (a at : ℕ) (ws : List ℕ) → Each (ActionIs M r) a As → drop at words ≡ ws → RowsStand nodes As ws →
@@ -80,8 +80,8 @@ module _ (M : Model) (words : List ℕ) (r : ModelRead) (t : TableRead) (x : Ind
         let rows : RowsInRange words r es t (length (L .actions)) (getD (r .index .actions) (N .location) 0) (suc (N .place)) =
         rows-in-range (length (W .nodes)) (L .actions) _ (suc (N .place)) _ (actions-at M r x good formed (N .location) (g .exists)) refl stands in
         record {
-          zone = rw (k .zone) (small-bounds (N .zone) (g .zone));
-          invariant = rw (k .location, location-is .invariant) (small-bounds (L .invariant) (good .invariants (N .location)));
+          zone = rw (k .zone) (tightens-bounds (N .zone) (g .zone));
+          invariant = rw (k .location, location-is .invariant) (tightens-bounds (L .invariant) (good .invariants (N .location)));
           place = rw (k .place) (g .place);
           actions = rw (k .location, next) (location-is .limit);
           rows = rw (k .location, k .place, actions-count M r x good formed (N .location) (g .exists)) rows;

@@ -5,7 +5,7 @@ use mathlib.Core.Bool.{Bool, false, cond, _||_}
 use mathlib.Core.List.{List}
 use lib.ListN.{getD, length}
 use lib.Dec.{eqb, leb}
-use Rattle.zone.specs.Squares.{universe, resetSquare, empty?, inside?, Small}
+use Rattle.zone.specs.Squares.{universe, resetSquare, empty?, inside?, Tightens}
 use Rattle.zone.specs.declared.zones.Zone.{Zone as Square}
 use Rattle.model.specs.TableKinds.{blocked, isTable}
 use Rattle.model.specs.Fields.{maskOf, landsAt, weightOf}
@@ -81,12 +81,12 @@ module _ (words : List ℕ) (r : ModelRead) (es : List Square) (t : TableRead) w
   RowsInRange zero a at = Unit {0}
   RowsInRange (suc n) a at =
       let size : ℕ = rowSize (isTable blocked (getD words at 0)) (edgesAt (r .index) a) in
-      Small (2 ^ 12) (getD es a universe) × (at < length words) × (at + size ≤ length words) × RowsInRange n (suc a) (at + size)
+      Tightens 3 (getD es a universe) × (at < length words) × (at + size ≤ length words) × RowsInRange n (suc a) (at + size)
 
   -- the node n, where its location is no target
   pub record NodeInRange (n : ℕ) (N : NodeEntry) : Type 0 where
-    pub zone : Small (2 ^ 12) (getD (t .zones) n universe)
-    pub invariant : Small (2 ^ 12) (getD (r .zones) (N .location) universe)
+    pub zone : Tightens 3 (getD (t .zones) n universe)
+    pub invariant : Tightens 3 (getD (r .zones) (N .location) universe)
     pub place : N .place < length words
     pub actions : getD (r .index .actions) (N .location + 1) 0 ≤ 32
     pub rows :

@@ -1,7 +1,6 @@
 // The zones of a row's reach: what waiting attains, and what an action attains of it before its resets.
 ghost use mathlib.Core.Path.{_≡_};
-ghost use Prim.Native.Nat.{_^_};
-ghost use Rattle.zone.specs.Squares.{Small};
+ghost use Rattle.zone.specs.Squares.{Tightens};
 ghost use Rattle.judge.specs.Reaching.{ActionsFit, enabledSquares, waitedSquare, reachSquare};
 use model::fields;
 use model::index::Index;
@@ -33,7 +32,7 @@ pub(crate) fn enabled_zones(index: Index, zones: [Zone; ZONES]) -> [Zone; 32]
 // What waiting attains from the states in a zone, within the invariant. Invariants may be lower bounds, and a zone need not lie in its
 // invariant, so the invariant is met before the delay and after it.
 pub(crate) fn waited(zone: Zone, invariant: Zone) -> Zone
-    requires { ⌜ Small (2 ^ 12) zone × Small (2 ^ 12) invariant ⌝ }
+    requires { ⌜ Tightens 3 zone × Tightens 3 invariant ⌝ }
     ensures { λ r. ⌜ r ≡ waitedSquare zone invariant ⌝ }
 {
     zone.meet(invariant).tighten().delay().meet(invariant)
@@ -41,7 +40,7 @@ pub(crate) fn waited(zone: Zone, invariant: Zone) -> Zone
 
 // Of what waiting attains, what an action attains before its resets.
 pub(crate) fn reach_of(waited: Zone, enabled: Zone) -> Zone
-    requires { ⌜ Small (2 ^ 17) waited × Small (2 ^ 12) enabled ⌝ }
+    requires { ⌜ Tightens 2 waited × Tightens 3 enabled ⌝ }
     ensures { λ r. ⌜ r ≡ reachSquare waited enabled ⌝ }
 {
     waited.meet(enabled).tighten()

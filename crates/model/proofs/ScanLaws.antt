@@ -9,12 +9,12 @@ use borrow.Author.Tests.{eq-eqb, ne-eqb, lt-ltb, le-ltb}
 use lib.ListN.{length, drop, getD, set, take, length-set, drop-of-length-le}
 use lib.Seq.{drop-cons, length-take-le, getD-take, getD-set-same, set-set}
 use Rattle.zone.specs.Words.{kind, boundOf}
-use Rattle.zone.specs.Cells.{unbounded, tighterOf}
-use Rattle.zone.specs.Squares.{universe, withBound, met, Small}
+use Rattle.zone.specs.Cells.{tighterOf, pastEnd}
+use Rattle.zone.specs.Squares.{universe, withBound, met, Tightens}
 use Rattle.zone.specs.Reading.{cellOf, withWord}
 use Rattle.zone.specs.declared.bounds.Bound.{Bound as Cell}
 use Rattle.zone.specs.declared.zones.Zone.{Zone as Square}
-use Rattle.zone.proofs.Sizes.{small-weaken, small-met}
+use Rattle.zone.proofs.Sizes.{small-met, tightens-fewer}
 use Rattle.model.specs.Kinds.{Kind, none, head, location, action, edge, bound, start, number}
 use Rattle.model.specs.Fields.{landsAt}
 use Rattle.model.specs.Scan.{WithinLimits, faultAt, lastFault, seenWithKind, seenWith}
@@ -82,7 +82,7 @@ module _ (s : Seen) (w : ℕ) (zs : List Square) where
   -- a bound goes to the zone of its opener, the zone z that stands apart, at the cell of index p
   pub zones-bound :
       (z : Square) (p : ℕ) (b : Cell) {b′ : Cell} → kind w ≡ number bound → s .slot < length (set zs (s .slot) z) →
-      p ≡ boundOf w .i * 5 + boundOf w .j → b ≡ cellOf (boundOf w) → b′ ≡ tighterOf (getD (z .cells) p unbounded) b →
+      p ≡ boundOf w .i * 5 + boundOf w .j → b ≡ cellOf (boundOf w) → b′ ≡ tighterOf (getD (z .cells) p pastEnd) b →
       set zs (s .slot) (record { cells = set (z .cells) p b′ }) ≡ zonesWith s w (set zs (s .slot) z)
   unfolding zonesWith withWord withBound
   zones-bound z p b e h ep eb et =
@@ -159,5 +159,5 @@ module _ (l : ℕ) (zs : List Square) (fit : ZonesFit zs) (h : l < 48) where
   pub start-is : met (getD zs l noZone) (getD zs 48 noZone) ≡ met (getD zs l universe) (getD zs 48 universe)
   start-is = rw (one-default zs l noZone universe (omega arith), one-default zs 48 noZone universe (omega arith))
 
-  pub start-small : Small (2 ^ 26) (met (getD zs l noZone) (getD zs 48 noZone))
-  start-small = rw start-is (small-weaken (small-met _ (fit .small l) _ (fit .small 48)) (omega arith))
+  pub start-tightens : Tightens 1 (met (getD zs l noZone) (getD zs 48 noZone))
+  start-tightens = rw start-is (tightens-fewer 1 3 _ (omega arith) (small-met _ (fit .tightens l) _ (fit .tightens 48)))

@@ -3,16 +3,18 @@ use Prim.Native.Nat.{_<_}
 use mathlib.Core.Path.{_≡_, refl, subst}
 use mathlib.Core.Bool.{true, false}
 use mathlib.Core.List.{List}
+use native.Mathlib.Omega.{arith}
 use lib.ListN.{getD, length}
 use Rattle.zone.specs.Scale.{Region, within}
-use Rattle.zone.specs.Squares.{universe, met, empty?}
+use Rattle.zone.specs.Squares.{universe, met, empty?, Tightens}
 use Rattle.zone.specs.declared.zones.Zone.{Zone as Square}
+use Rattle.zone.proofs.Sizes.{small-met, tightens-fewer}
 use Rattle.zone.proofs.Regions.{Stands, inBoth, Some, some, stands-met, empty-yes}
 use Rattle.model.specs.Model.{Model}
 use Rattle.model.specs.States.{locationAt, HasStart}
 use Rattle.model.specs.Index.{startSquare}
 use Rattle.model.specs.Indexed.{withBounds}
-use Rattle.model.proofs.ZoneLaws.{stands-bounds}
+use Rattle.model.proofs.ZoneLaws.{stands-bounds, tightens-bounds}
 use Rattle.model.proofs.GoodModel.{GoodModel}
 
 -- the start valuations: in the start location's invariant and in the start bounds
@@ -30,10 +32,16 @@ module _
         (stands-met (stands-bounds (locationAt M (M .start) .invariant) (good .invariants (M .start)))
         (stands-bounds (M .startBounds) (good .startBounds)))
 
+    pub start-fits : Tightens 1 (met (getD zs (M .start) universe) (getD zs 48 universe))
+    start-fits =
+        rw (invariant, startBounds)
+        (tightens-fewer 1 3 _ (omega arith) (small-met _ (tightens-bounds (locationAt M (M .start) .invariant) (good .invariants (M .start)))
+        _ (tightens-bounds (M .startBounds) (good .startBounds))))
+
     pub start-yes : M .start < length (M .locations) → empty? (startSquare (M .start) zs) ≡ false → HasStart M
     unfolding startSquare
     start-yes h e =
-        let p : Some (startRegion M) = some start-met e in
+        let p : Some (startRegion M) = some start-fits start-met e in
         record {
           scale = p .scale;
           positive = p .positive;
@@ -44,7 +52,7 @@ module _
     pub start-no : empty? (startSquare (M .start) zs) ≡ true → HasStart M → ⊥
     unfolding startSquare
     start-no e s =
-        empty-yes start-met e .at (s .scale) (s .positive) (s .state .valuation) (
+        empty-yes start-fits start-met e .at (s .scale) (s .positive) (s .state .valuation) (
           subst (λ l. within (locationAt M l .invariant) (s .scale) (s .state .valuation)) (s .starts .location) (s .starts .state .invariant),
           s .starts .bounds,
         )

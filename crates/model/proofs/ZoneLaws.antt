@@ -1,28 +1,31 @@
--- The zones of a model's words: good bounds, the square tables that stand for lists of them, and how large their numbers are. Assumes nothing.
+-- The zones of a model's words: good bounds, the square tables that stand for lists of them, and how often these can be tightened.
+-- Assumes nothing.
 use Prim.Native.Nat.{ℕ, zero, suc, _≤_, _<_}
 use mathlib.Core.Path.{_≡_, refl, _∙_}
 use mathlib.Core.Bool.{Bool, true, false, cond}
 use mathlib.Core.List.{List, [], _∷_}
 use native.Mathlib.Omega.{arith}
+use lib.IntN.{natAbs}
 use lib.ListN.{getD, length, set, replicate, length-set, length-replicate}
-use lib.Signed.{mag}
 use Rattle.zone.specs.Scale.{Bound, Zone, holds?, in?, Region, within}
 use Rattle.zone.specs.Words.{boundOf, goodBound?}
-use Rattle.zone.specs.Squares.{universe, Small}
+use Rattle.zone.specs.Squares.{universe, Tightens}
 use Rattle.zone.specs.Reading.{cellOf, withWord}
 use Rattle.zone.specs.declared.zones.Zone.{Zone as Square}
 use Rattle.zone.proofs.Bools.{both, and}
-use Rattle.zone.proofs.WordLaws.{number-small, good-first, good-second}
-use Rattle.zone.proofs.Sizes.{small-weaken, small-universe, small-withBound, small-withWord}
+use Rattle.zone.proofs.KeyLaws.{size-cellOf}
+use Rattle.zone.proofs.WordLaws.{good-first, good-second, good-number}
+use Rattle.zone.proofs.Sizes.{small-withBound, tightens-universe, tightens-withWord}
 use Rattle.zone.proofs.Regions.{Stands, inBoth, stands-same, stands-universe, stands-withBound}
 use Rattle.model.specs.Kinds.{bound, is}
-use Rattle.model.specs.Scan.{nothing, faultAt, seenWith}
+use Rattle.model.specs.Scan.{nothing, faultAt, seenWith, WithinLimits}
 use Rattle.model.specs.Index.{emptyIndex, indexWith, zonesWith, scanFrom, scanned}
 use Rattle.model.specs.Indexed.{withBounds}
 use Rattle.model.specs.declared.seen.Seen.{Seen}
 use Rattle.model.specs.declared.index.Index.{Index}
 use Rattle.model.specs.declared.scan.Scanned.{Scanned}
 use Rattle.model.proofs.Run.{unless}
+use Rattle.model.proofs.Limits.{limits-nothing, limits-with, good-bound}
 
 -- P holds of every element
 pub data All {A : Type 0} (P : A → Type 0) : List A → Type 0 where
@@ -38,7 +41,7 @@ all-at (suc i) (more p ps) q = all-at i ps q
 pub record GoodBound (b : Bound) : Type 0 where
   pub first : b .i < 5
   pub second : b .j < 5
-  pub small : mag (b .d) < 4096
+  pub small : natAbs (b .d) < 4096
 
 abbrev pub GoodZone : Zone → Type 0
 GoodZone z = All GoodBound z
@@ -47,7 +50,7 @@ pub good-word : (C w : ℕ) → C ≤ 4 → goodBound? C w ≡ true → GoodBoun
 good-word C w h g = record {
   first = omega (arith, good-first C w g);
   second = omega (arith, good-second C w g);
-  small = number-small w;
+  small = good-number C w g;
 }
 
 -- ---- the table of a good zone
@@ -58,22 +61,19 @@ stands-on (b ∷ z) (more g gs) s =
     stands-same
     (λ k v r. (and (holds? k v b) (in? k v z) (r .1 .0) (r .0), r .1 .1))
     (λ k v r. let (p, q) = both (holds? k v b) (in? k v z) (r .0) in (q, (p, r .1)))
-    (stands-on z gs (stands-withBound b (g .first) (g .second) s))
+    (stands-on z gs (stands-withBound b (g .first) (g .second) (g .small) s))
 
 pub stands-bounds : (z : Zone) → GoodZone z → Stands (within z) (withBounds z universe)
 unfolding within in?
 stands-bounds z g = stands-same (λ k v r. r .0) (λ k v r. (r, tt)) (stands-on z g stands-universe)
 
-small-on : {y : Square} (z : Zone) → GoodZone z → Small 4096 y → Small 4096 (withBounds z y)
+tightens-on : {y : Square} (z : Zone) → GoodZone z → Tightens 3 y → Tightens 3 (withBounds z y)
 unfolding withBounds
-small-on [] empty s = s
-small-on {y} (b ∷ z) (more g gs) s = small-on z gs (small-withBound y s (b .i) (b .j) (cellOf b) (g .small))
+tightens-on [] empty s = s
+tightens-on {y} (b ∷ z) (more g gs) s = tightens-on z gs (small-withBound y s (b .i) (b .j) (cellOf b) (size-cellOf b (g .small)))
 
-small-universe-read : Small 4096 universe
-small-universe-read = small-weaken small-universe (omega arith)
-
-pub small-bounds : (z : Zone) → GoodZone z → Small 4096 (withBounds z universe)
-small-bounds z g = small-on z g small-universe-read
+pub tightens-bounds : (z : Zone) → GoodZone z → Tightens 3 (withBounds z universe)
+tightens-bounds z g = tightens-on z g tightens-universe
 
 -- ---- the tables in the slots
 pub same-at : {A : Type 0} (n q : ℕ) (a : A) → getD (replicate n a) q a ≡ a
@@ -97,35 +97,36 @@ zones-length s w zs = by (is bound w)
     by true = length-set zs (s .slot) _
     by false = refl
 
--- the zones of a pass: 49 of them, with constants below 4,096 in size, as words give them
+-- the zones of a pass: 49 of them, of bounds as words give them
 pub record ZonesFit (zs : List Square) : Type 0 where
   pub sized : length zs ≡ 49
-  pub small : (q : ℕ) → Small 4096 (getD zs q universe)
+  pub tightens : (q : ℕ) → Tightens 3 (getD zs q universe)
 
-small-with : (s : Seen) (w : ℕ) (zs : List Square) → ((q : ℕ) → Small 4096 (getD zs q universe)) → (q : ℕ) →
-    Small 4096 (getD (zonesWith s w zs) q universe)
+tightens-with : (s : Seen) (w : ℕ) (zs : List Square) → (is bound w ≡ true → goodBound? (s .clocks) w ≡ true) →
+    ((q : ℕ) → Tightens 3 (getD zs q universe)) → (q : ℕ) → Tightens 3 (getD (zonesWith s w zs) q universe)
 unfolding zonesWith
-small-with s w zs h q = by (is bound w)
+tightens-with s w zs good h q = by (is bound w) good
   where
     new : Square
     new = withWord w (getD zs (s .slot) universe)
 
-    by : (c : Bool) → Small 4096 (getD (cond c (set zs (s .slot) new) zs) q universe)
-    by true = set-at (Small 4096) universe new zs (s .slot) q h (small-withWord w _ (omega arith) (h (s .slot)))
-    by false = h q
+    by : (c : Bool) → (c ≡ true → goodBound? (s .clocks) w ≡ true) → Tightens 3 (getD (cond c (set zs (s .slot) new) zs) q universe)
+    by true g = set-at (Tightens 3) universe new zs (s .slot) q h (tightens-withWord (s .clocks) w (g refl) _ (h (s .slot)))
+    by false g = h q
 
-fit-with : (s : Seen) (w : ℕ) (zs : List Square) → ZonesFit zs → ZonesFit (zonesWith s w zs)
-fit-with s w zs r = record { sized = zones-length s w zs ∙ r .sized; small = small-with s w zs (r .small) }
-
-fit-from : (s : Seen) (x : Index) (zs : List Square) (p : ℕ) (ws : List ℕ) → ZonesFit zs → ZonesFit (scanFrom s x zs p ws .zones)
+fit-from : (s : Seen) (x : Index) (zs : List Square) (p : ℕ) (ws : List ℕ) → WithinLimits s → ZonesFit zs →
+    ZonesFit (scanFrom s x zs p ws .zones)
 unfolding scanFrom
-fit-from s x zs p [] r = r
-fit-from s x zs p (w ∷ ws) r =
+fit-from s x zs p [] h r = r
+fit-from s x zs p (w ∷ ws) h r =
     unless (λ (q : Scanned). ZonesFit (q .zones)) (faultAt s w) _ _ r
-    λ f. fit-from (seenWith s w p) (indexWith s w p x) (zonesWith s w zs) (suc p) ws (fit-with s w zs r)
+    λ f. fit-from (seenWith s w p) (indexWith s w p x) (zonesWith s w zs) (suc p) ws (limits-with s w p h f) (record {
+      sized = zones-length s w zs ∙ r .sized;
+      tightens = tightens-with s w zs (good-bound s w h f) (r .tightens);
+    })
 
 pub fit-scanned : (words : List ℕ) → ZonesFit (scanned words .zones)
 unfolding scanned
 fit-scanned words =
-    fit-from nothing emptyIndex (replicate 49 universe) 0 words
-    (record { sized = length-replicate 49 universe; small = λ q. rw (same-at 49 q universe) small-universe-read })
+    fit-from nothing emptyIndex (replicate 49 universe) 0 words limits-nothing
+    (record { sized = length-replicate 49 universe; tightens = λ q. rw (same-at 49 q universe) tightens-universe })

@@ -10,7 +10,7 @@ use lib.Dec.{leb, ltb}
 use lib.ListN.{length, drop, getD, set, length-set, drop-of-length-le}
 use lib.Seq.{drop-cons, set-set, set-getD, getD-set-same}
 use Rattle.zone.specs.Words.{kind, boundOf}
-use Rattle.zone.specs.Cells.{unbounded, tighterOf}
+use Rattle.zone.specs.Cells.{tighterOf, pastEnd}
 use Rattle.zone.specs.Squares.{universe, withBound}
 use Rattle.zone.specs.Reading.{cellOf, withWord}
 use Rattle.zone.specs.declared.bounds.Bound.{Bound as Cell}
@@ -109,7 +109,7 @@ module _ (s : Seen) (w p : ℕ) where
 
 -- the zone where the bound of a word holds too, from the cell where it stands
 pub zone-bound :
-    (w p : ℕ) (b : Cell) (z : Square) → p ≡ boundOf w .i * 5 + boundOf w .j → b ≡ tighterOf (getD (z .cells) p unbounded) (cellOf (boundOf w)) →
+    (w p : ℕ) (b : Cell) (z : Square) → p ≡ boundOf w .i * 5 + boundOf w .j → b ≡ tighterOf (getD (z .cells) p pastEnd) (cellOf (boundOf w)) →
     record { cells = set (z .cells) p b } ≡ withWord w z
 unfolding withWord withBound
 zone-bound w p b z e f = rw (f, e)

@@ -10,11 +10,11 @@ use native.Mathlib.Omega.{arith}
 use lib.Dec.{T}
 use Rattle.zone.specs.Scale.{Valuation, read, holds?, Zone, in?, Region, within, Empty, Inside}
 use Rattle.zone.specs.Moves.{delayed, masked?, reset, ResetOf}
-use Rattle.zone.specs.Squares.{cell, tightened, source, resetSquare, beforeBelow, beforeReset, reached, empty?, inside?}
-use Rattle.zone.specs.Reading.{cellOf}
+use Rattle.zone.specs.Squares.{cell, tightened, source, resetSquare, beforeBelow, beforeReset, reached, empty?, inside?, Tightens}
 use Rattle.zone.specs.declared.zones.Zone.{Zone as Square}
 use Rattle.zone.proofs.Bools.{false-true, both, and}
-use Rattle.zone.proofs.CellLaws.{bounds, holds→, →holds}
+use Rattle.zone.proofs.Limits.{bounds}
+use Rattle.zone.proofs.KeyLaws.{limitOf, boundLimit, holds→, →holds}
 use Rattle.zone.proofs.SquareTables.{
   tableOf,
   table-at,
@@ -87,19 +87,19 @@ between (b ∷ z) k v s t p q =
     and (holds? k (delayed v s) b) (in? k (delayed v s) z) here
     (between z k v s t (both (holds? k v b) (in? k v z) p .1) (both (holds? k (delayed v (s + t)) b) (in? k (delayed v (s + t)) z) q .1))
   where
-    at : (r : ℕ) → T (holds? k (delayed v r) b) → bounds .Holds k (later (read v) r (b .i)) (later (read v) r (b .j)) (cellOf b)
+    at : (r : ℕ) → T (holds? k (delayed v r) b) → bounds .Holds k (later (read v) r (b .i)) (later (read v) r (b .j)) (boundLimit b)
     at r h = rw (read-delayed v r) at (holds→ k (delayed v r) b h)
 
     here : T (holds? k (delayed v s) b)
     here = →holds k (delayed v s) b
         (rw (read-delayed v s)
-        (between₁ bounds k (read v) s t (b .i) (b .j) (cellOf b) (holds→ k v b (both (holds? k v b) (in? k v z) p .0))
+        (between₁ bounds k (read v) s t (b .i) (b .j) (boundLimit b) (holds→ k v b (both (holds? k v b) (in? k v z) p .0))
         (at (s + t) (both (holds? k (delayed v (s + t)) b) (in? k (delayed v (s + t)) z) q .0))))
 
 -- ---- the delay
-module _ {R S : Region} {y z : Square} (s : Stands R y) (t : Stands S z) where
+module _ {R S : Region} {y z : Square} (from-fits : Tightens 2 y) (into-fits : Tightens 1 z) (s : Stands R y) (t : Stands S z) where
   reached-ok : empty? (reached y z) ≡ false → Ok bounds 5 (reach bounds 5 (tableOf y) (tableOf z))
-  reached-ok e = rw (table-reached y z) at (nonempty-ok (reached y z) e)
+  reached-ok e = rw (table-reached y z from-fits into-fits) at (nonempty-ok (reached y z) e)
 
   -- the theory's run, from a valuation v with clock 0 at 0, attains what the document says
   run : (k : ℕ) → 1 ≤ k → (v : Valuation) → v 0 ≡ 0 → (d : ℕ) → In bounds 5 (tableOf y) k v → In bounds 5 (tableOf z) k (later v d) →
@@ -117,7 +117,7 @@ module _ {R S : Region} {y z : Square} (s : Stands R y) (t : Stands S z) where
   pub attained-in : (k : ℕ) → 1 ≤ k → (v : Valuation) → Attained R S k v → inSquare (reached y z) k v
   unfolding inSquare
   attained-in k k₁ v a =
-      rw (table-reached y z, ends)
+      rw (table-reached y z from-fits into-fits, ends)
       (reach-in bounds 5 (tableOf y) (tableOf z) (a .delay) (s .into k k₁ (a .«from») (a .starts)) (rw ends at (t .into k k₁ v (a .ends))))
     where
       ends : read v ≡ later (read (a .«from»)) (a .delay)
@@ -138,7 +138,7 @@ module _ {R S : Region} {y z : Square} (s : Stands R y) (t : Stands S z) where
   }
     where
       r : Run bounds 5 (tableOf y) (tableOf z) k (read v)
-      r = in-reach bounds 5 (tableOf y) (tableOf z) (s .based) (reached-ok e) (omega arith) k₁ refl (rw (table-reached y z) at p)
+      r = in-reach bounds 5 (tableOf y) (tableOf z) (s .based) (reached-ok e) (omega arith) k₁ refl (rw (table-reached y z from-fits into-fits) at p)
 
   -- blocked: nothing is attained at any scale
   pub reached-empty-yes : empty? (reached y z) ≡ true → Empty (Attained R S)
@@ -177,7 +177,7 @@ module _ {R S : Region} {y z : Square} (s : Stands R y) (t : Stands S z) where
         reads v v₀ d i = read-reset mask (delayed v d) i ∙ ap (λ x. x (source mask i)) (read-delayed v d ∙ ap (λ x. later x d) (read-same v v₀))
 
         cells : (i j : ℕ) → i < 5 → j < 5 → bounds ._⊑_ (tableOf (resetSquare mask (reached y z)) i j) (tableOf w i j)
-        cells i j hi hj = rw (table-reset mask (reached y z) i j hi hj, table-reached y z)
+        cells i j hi hj = rw (table-reset mask (reached y z) i j hi hj, table-reached y z from-fits into-fits)
             (reach-least bounds 5 (tableOf y) (tableOf z) (s .based) (reached-ok e) (omega arith) (source-lt mask i hi)
             (source-lt mask j hj) (tableOf w i j)
             (λ k k₁ v v₀ d p q. subst₂ (λ x x′. bounds .Holds k x x′ (tableOf w i j)) (reads v v₀ d i) (reads v v₀ d j)
@@ -197,10 +197,10 @@ module _ {R : Region} {z : Square} (s : Stands R z) (mask : ℕ) where
     pub was : R (factor * k) before
     pub reads : (i : ℕ) → i < 5 → read (reset mask before) i ≡ factor * read v i
 
-  pub in-resetSquare : empty? (tightened z) ≡ false → (k : ℕ) → 1 ≤ k → (v : Valuation) → inSquare (resetSquare mask (tightened z)) k v →
+  pub in-resetSquare : Tightens 1 z → empty? (tightened z) ≡ false → (k : ℕ) → 1 ≤ k → (v : Valuation) → inSquare (resetSquare mask (tightened z)) k v →
       ResetMultiple k v
   unfolding inSquare read source renamed
-  in-resetSquare e k k₁ v p = record {
+  in-resetSquare fits e k k₁ v p = record {
     factor = r .factor;
     factor₁ = r .factor₁;
     before = r .v;
@@ -209,11 +209,11 @@ module _ {R : Region} {z : Square} (s : Stands R z) (mask : ℕ) where
   }
     where
       cells : In bounds 5 (theory.reset bounds (masked? mask) (close bounds 5 (tableOf z))) k (read v)
-      cells = record { at = λ i j hi hj. rw (table-reset mask (tightened z) i j hi hj, table-tightened z) at (p .at i j hi hj) }
+      cells = record { at = λ i j hi hj. rw (table-reset mask (tightened z) i j hi hj, table-tightened z fits) at (p .at i j hi hj) }
 
       r : Unreset bounds 5 (close bounds 5 (tableOf z)) (masked? mask) k (read v)
       r = theory.in-reset bounds (masked? mask) (omega arith)
-          (good-close bounds (s .based) (rw (table-tightened z) at (nonempty-ok (tightened z) e))) k₁ refl cells
+          (good-close bounds (s .based) (rw (table-tightened z fits) at (nonempty-ok (tightened z) e))) k₁ refl cells
 
       scale : 1 ≤ r .factor * k
       scale = N.one-le-mul (r .factor₁) k₁
@@ -226,7 +226,7 @@ landing mask R k v = R k (reset mask v)
 module _ (mask : ℕ) where
   -- z's bound of clock i minus clock j holds after the reset
   abbrev holdsAfter : Square → ℕ → ℕ → Region
-  holdsAfter z i j k v = bounds .Holds k (read v (source mask i)) (read v (source mask j)) (cell z i j)
+  holdsAfter z i j k v = bounds .Holds k (read v (source mask i)) (read v (source mask j)) (limitOf (cell z i j))
 
   -- so do the bounds in the first n cells
   abbrev belowHold : Square → ℕ → Region

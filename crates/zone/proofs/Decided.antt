@@ -22,7 +22,8 @@ use Rattle.zone.specs.declared.questions.Inclusion.{Inclusion}
 use Rattle.zone.specs.declared.questions.Inclusion.the-variants as inclusion
 use Rattle.zone.proofs.CheckLaws.{first-join, first-all, first-before}
 use Rattle.zone.proofs.ReadLaws.{read-good, read-bad}
-use Rattle.zone.proofs.WordLaws.{good-first, good-second}
+use Rattle.zone.proofs.WordLaws.{good-first, good-second, good-number}
+use Rattle.zone.proofs.Sizes.{tightens-read}
 use Rattle.zone.proofs.Bools.{false-true, both, and, right-true}
 use Rattle.zone.proofs.Regions.{
   Stands,
@@ -41,7 +42,8 @@ use Rattle.zone.proofs.Regions.{
 module _ (C : ℕ) (h : C ≤ 4) where
   word-stands : {R : Region} {z : Square} (w : ℕ) → goodBound? C w ≡ true → Stands R z → Stands (inBoth (holding (boundOf w)) R) (withWord w z)
   unfolding withWord
-  word-stands w g s = stands-withBound (boundOf w) (omega (arith, good-first C w g)) (omega (arith, good-second C w g)) s
+  word-stands w g s =
+      stands-withBound (boundOf w) (omega (arith, good-first C w g)) (omega (arith, good-second C w g)) (good-number C w g) s
 
   from-stands : {R : Region} (ws : List ℕ) (p : ℕ) {z : Square} → Stands R z → readFrom C ws p z .good ≡ true →
       Stands (inBoth (within (zoneOf ws)) R) (readFrom C ws p z .zone)
@@ -82,9 +84,9 @@ module _ (C : ℕ) (words : List ℕ) where
           (emptinessAnswer (cond g (cond e emptiness.Empty emptiness.NotEmpty) (emptiness.BadBound (readZone C words .place))))
       by false e p q = read-bad 32 C Empties words 0 universe p
       by true true p q = first-all (boundChecks 32 C 0 words) Empties true (read-good 32 C words 0 universe p)
-          ((λ _. empty-yes (read-stands C h words p) q), λ _. tt)
+          ((λ _. empty-yes (tightens-read C words) (read-stands C h words p) q), λ _. tt)
       by true false p q = first-all (boundChecks 32 C 0 words) Empties false (read-good 32 C words 0 universe p)
-          ((λ f. absurd f), λ m. empty-no (read-stands C h words p) q m)
+          ((λ f. absurd f), λ m. empty-no (tightens-read C words) (read-stands C h words p) q m)
 
   pub decided-empty : AskedEmpty C words (emptinessAnswer (decideEmpty C words))
   unfolding decideEmpty emptinessAnswer clockCheck
@@ -123,13 +125,13 @@ module _ (C : ℕ) (first second : List ℕ) where
           (read-bad 32 C Includes first 0 universe p)
       by true false e i p q r s = behind (refused 33 (readZone C second .place)) p (read-bad 33 C Includes second 0 universe q)
       by true true true i p q r s = behind (accepted true) p (first-all (boundChecks 33 C 0 second) Includes true (read-good 33 C second 0 universe q)
-          ((λ _. record { at = λ k k₁ v m. absurd (empty-yes (read-stands C h first p) r .at k k₁ v m) }), λ _. tt))
+          ((λ _. record { at = λ k k₁ v m. absurd (empty-yes (tightens-read C first) (read-stands C h first p) r .at k k₁ v m) }), λ _. tt))
       by true true false true p q r s =
           behind (accepted true) p (first-all (boundChecks 33 C 0 second) Includes true (read-good 33 C second 0 universe q)
-          ((λ _. inside-yes (read-stands C h first p) (read-stands C h second q) s), λ _. tt))
+          ((λ _. inside-yes (tightens-read C first) (read-stands C h first p) (read-stands C h second q) s), λ _. tt))
       by true true false false p q r s =
           behind (accepted false) p (first-all (boundChecks 33 C 0 second) Includes false (read-good 33 C second 0 universe q)
-          ((λ f. absurd f), λ m. inside-no (read-stands C h first p) (read-stands C h second q) r s m))
+          ((λ f. absurd f), λ m. inside-no (tightens-read C first) (read-stands C h first p) (read-stands C h second q) r s m))
 
   pub decided-inside : AskedInside C first second (inclusionAnswer (decideInside C first second))
   unfolding decideInside inclusionAnswer clockCheck

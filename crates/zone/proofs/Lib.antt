@@ -3,11 +3,12 @@ pub mod Bools
 pub mod Integers
 pub mod Machine
 pub mod Theory
-pub mod CellLaws
-pub mod CellCode
+pub mod Limits
+pub mod KeyLaws
+pub mod KeyCode
 pub mod Loops
-pub mod Sizes
 pub mod WordLaws
+pub mod Sizes
 pub mod SquareTables
 pub mod Regions
 pub mod Attained

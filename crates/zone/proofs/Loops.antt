@@ -1,7 +1,7 @@
 -- Loops over arrays: one that fills an array from the front, and one that looks for a number that fails a test. Assumes nothing.
 use Prim.Native.Nat.{ℕ, zero, suc, _+_, _*_, _/_, _%_, _≤_, _<_}
 use mathlib.Core.Path.{_≡_, refl, sym, ap, ap₂, subst, _∙_}
-use mathlib.Core.Bool.{Bool, true, false, _&&_, and-false}
+use mathlib.Core.Bool.{Bool, true, false, _&&_}
 use mathlib.Core.List.{List, _∷_}
 use mathlib.Core.Logic.{_⊎_, inl, inr}
 use native.Mathlib.Nat.{
@@ -14,10 +14,11 @@ use native.Mathlib.Nat.{
   not-suc-le-zero,
   div-add-mod',
 }
+use native.Mathlib.Numerals.{add-one}
 use native.Mathlib.Omega.{arith}
 use lib.ListN.{length, getD, set, length-set}
 use lib.Seq.{getD-set-same, getD-set-other, ext-getD}
-use Rattle.zone.specs.Cells.{unbounded}
+use Rattle.zone.specs.Cells.{pastEnd}
 use Rattle.zone.specs.Squares.{cell, listOf, all?}
 use Rattle.zone.specs.declared.bounds.Bound.{Bound as Cell}
 use Rattle.zone.specs.declared.zones.Zone.{Zone as Square}
@@ -25,12 +26,12 @@ use Rattle.zone.proofs.Bools.{false-true}
 use Rattle.zone.proofs.Integers.{lt-or-ge}
 
 -- the cell at an index is that of the index's two clocks
-pub at-clocks : (z : Square) (p : ℕ) → cell z (p / 5) (p % 5) ≡ getD (z .cells) p unbounded
-at-clocks z p = ap (λ (k : ℕ). getD (z .cells) k unbounded) (div-add-mod' p 5)
+pub at-clocks : (z : Square) (p : ℕ) → cell z (p / 5) (p % 5) ≡ getD (z .cells) p pastEnd
+at-clocks z p = ap (λ (k : ℕ). getD (z .cells) k pastEnd) (div-add-mod' p 5)
 
 -- the cells of a clock minus itself stand six apart
-pub on-diagonal : (z : Square) (i : ℕ) → cell z i i ≡ getD (z .cells) (i * 6) unbounded
-on-diagonal z i = ap (λ (k : ℕ). getD (z .cells) k unbounded) (let e : i * 5 + i ≡ i * 6 = omega arith in e)
+pub on-diagonal : (z : Square) (i : ℕ) → cell z i i ≡ getD (z .cells) (i * 6) pastEnd
+on-diagonal z i = ap (λ (k : ℕ). getD (z .cells) k pastEnd) (let e : i * 5 + i ≡ i * 6 = omega arith in e)
 
 -- ---- the list of a function's values
 pub listOf-length : {A : Type 0} (f : ℕ → A) (n p : ℕ) → length (listOf f n p) ≡ n
@@ -101,7 +102,7 @@ module _ {A : Type 0} {d : A} {n : ℕ} {goal old : List A} where
     all-filled e h = let s = t .size in ext-getD d xs goal (t .size ∙ sym e) (λ k l. t .done k (omega arith))
 
 -- a square table that is filled
-pub filled : {goal old : List Cell} {p : ℕ} {xs : List Cell} → Filled unbounded 25 goal old p xs → length goal ≡ 25 → 25 ≤ p →
+pub filled : {goal old : List Cell} {p : ℕ} {xs : List Cell} → Filled pastEnd 25 goal old p xs → length goal ≡ 25 → 25 ≤ p →
     _≡_ {A = Square} (record { cells = xs }) (record { cells = goal })
 filled t e h = ap (λ (cs : List Cell). record { cells = cs }) (all-filled t e h)
 
@@ -111,14 +112,10 @@ unfolding all?
 all-pass zero f h = refl
 all-pass (suc n) f h = rw (all-pass n f (λ k l. h k (omega arith)), h n (omega arith))
 
-pub one-fails : (n : ℕ) (f : ℕ → Bool) (k : ℕ) → k < n → f k ≡ false → all? n f ≡ false
+-- and one number more
+pub all-more : (n : ℕ) (f : ℕ → Bool) {a b : Bool} → a ≡ all? n f → b ≡ f n → (a && b) ≡ all? (n + 1) f
 unfolding all?
-one-fails zero f k h e = absurd (not-suc-le-zero h)
-one-fails (suc n) f k h e = by (lt-or-ge k n) (one-fails n f k)
-  where
-    by : (k < n) ⊎ (n ≤ k) → (k < n → f k ≡ false → all? n f ≡ false) → (all? n f && f n) ≡ false
-    by (inl l) r = rw (r l e)
-    by (inr l) r = let q : k ≡ n = omega arith in rw (ap f (sym q) ∙ e) (and-false (all? n f))
+all-more n f e g = rw (add-one n, e, g)
 
 -- a test that passes at every number below n passes at each
 pub all-at : (n : ℕ) (f : ℕ → Bool) → all? n f ≡ true → (i : ℕ) → i < n → f i ≡ true

@@ -9,7 +9,7 @@ use native.Mathlib.Omega.{arith}
 use lib.Dec.{T}
 use lib.ListN.{length, drop, getD, set, drop-of-length-le}
 use lib.Seq.{drop-cons}
-use Rattle.zone.specs.Cells.{unbounded, tighterOf}
+use Rattle.zone.specs.Cells.{tighterOf, pastEnd}
 use Rattle.zone.specs.Squares.{withBound}
 use Rattle.zone.specs.Words.{boundOf, goodBound?}
 use Rattle.zone.specs.Checks.{Answer, refused, First}
@@ -24,7 +24,7 @@ use Rattle.zone.proofs.CheckLaws.{AllHold}
 -- the bound of a word, put in its cell
 pub word-put :
     (w : ℕ) (z : Square) (p : ℕ) (b new : Cell) → p ≡ boundOf w .i * 5 + boundOf w .j → b ≡ cellOf (boundOf w) →
-    new ≡ tighterOf (getD (z .cells) p unbounded) b → _≡_ {A = Square} (record { cells = set (z .cells) p new }) (withWord w z)
+    new ≡ tighterOf (getD (z .cells) p pastEnd) b → _≡_ {A = Square} (record { cells = set (z .cells) p new }) (withWord w z)
 unfolding withWord withBound
 word-put w z p b new e f g = rw (g, f, e)
 

@@ -7,15 +7,17 @@ use mathlib.Core.List.{[]}
 use native.Mathlib.Nat as N
 use native.Mathlib.Omega.{arith}
 use lib.Dec.{T, eqb, eqb→eq, eqb-refl}
+use lib.IntN.{natAbs}
 use lib.ListN.{length}
 use Rattle.zone.specs.Scale.{Valuation, read, Bound, holds?, in?, Region, within, Empty, Inside}
 use Rattle.zone.specs.Cells.{unbounded, atMostZero, tighterOf}
-use Rattle.zone.specs.Squares.{cell, universe, withBound, met, tightened, empty?, inside?}
+use Rattle.zone.specs.Squares.{cell, universe, withBound, met, tightened, empty?, inside?, Tightens}
 use Rattle.zone.specs.Reading.{cellOf}
 use Rattle.zone.specs.declared.bounds.Bound.{Bound as Cell}
 use Rattle.zone.specs.declared.zones.Zone.{Zone as Square}
 use Rattle.zone.proofs.Bools.{false-true}
-use Rattle.zone.proofs.CellLaws.{bounds, holds→, →holds}
+use Rattle.zone.proofs.Limits.{none, bounds}
+use Rattle.zone.proofs.KeyLaws.{limitOf, holds→, →holds, limit-cellOf}
 use Rattle.zone.proofs.SquareTables.{
   tableOf,
   sized-square,
@@ -93,25 +95,25 @@ stands-universe = record {
   sized = sized-square (λ i j. cond (eqb i 0 || eqb i j) atMostZero unbounded);
   based = record {
     flat = λ i h. rw (table-universe i i h h) (flat i (eqb i 0) (eqb i i) (eqb-refl i));
-    low₀ = λ i h. rw (table-universe 0 i (omega arith) h) (bounds .⊑-refl atMostZero);
+    low₀ = λ i h. rw (table-universe 0 i (omega arith) h) (bounds .⊑-refl (bounds .atMostZero));
   };
   into = λ k k₁ v _. record { at = λ i j hi hj. rw (table-universe i j hi hj) (holds k v i j (eqb i 0) (eqb i j) (eqb→eq i 0) (eqb→eq i j)) };
   out = λ k k₁ v _. tt;
 }
   where
-    flat : (i : ℕ) (a b : Bool) → T b → bounds ._⊑_ (cond (a || b) atMostZero unbounded) atMostZero
-    flat i true b t = bounds .⊑-refl atMostZero
-    flat i false true t = bounds .⊑-refl atMostZero
+    flat : (i : ℕ) (a b : Bool) → T b → bounds ._⊑_ (cond (a || b) (bounds .atMostZero) none) (bounds .atMostZero)
+    flat i true b t = bounds .⊑-refl (bounds .atMostZero)
+    flat i false true t = bounds .⊑-refl (bounds .atMostZero)
     flat i false false t = absurd t
 
     holds : (k : ℕ) (v : Valuation) (i j : ℕ) (a b : Bool) → (T a → i ≡ 0) → (T b → i ≡ j) →
-        bounds .Holds k (read v i) (read v j) (cond (a || b) atMostZero unbounded)
+        bounds .Holds k (read v i) (read v j) (cond (a || b) (bounds .atMostZero) none)
     holds k v i j true b p q = bounds .atMostZero-holds k (read v i) (read v j) (subst (λ x. read v x ≤ read v j) (sym (p tt)) (omega arith))
     holds k v i j false true p q = bounds .atMostZero-holds k (read v i) (read v j) (subst (λ x. read v i ≤ read v x) (q tt) (N.le-refl (read v i)))
     holds k v i j false false p q = bounds .holds-unbounded k (read v i) (read v j)
 
 pub stands-with : {R : Region} {z : Square} (i j : ℕ) (c : Cell) → i < 5 → j < 5 → Stands R z →
-    Stands (inBoth (λ k v. bounds .Holds k (read v i) (read v j) c) R) (withBound i j c z)
+    Stands (inBoth (λ k v. bounds .Holds k (read v i) (read v j) (limitOf c)) R) (withBound i j c z)
 unfolding inSquare
 stands-with {z = z} i j c hi hj s = record {
   sized = sized-with i j c z (s .sized);
@@ -132,10 +134,12 @@ stands-with {z = z} i j c hi hj s = record {
     old = with-old i j c z (s .sized) hi hj
 
 -- a bound of document 01
-pub stands-withBound : {R : Region} {z : Square} (b : Bound) → b .i < 5 → b .j < 5 → Stands R z →
+pub stands-withBound : {R : Region} {z : Square} (b : Bound) → b .i < 5 → b .j < 5 → natAbs (b .d) < 4096 → Stands R z →
     Stands (inBoth (holding b) R) (withBound (b .i) (b .j) (cellOf b) z)
-stands-withBound b hi hj s =
-    stands-same (λ k v p. (→holds k v b (p .0), p .1)) (λ k v p. (holds→ k v b (p .0), p .1)) (stands-with (b .i) (b .j) (cellOf b) hi hj s)
+stands-withBound b hi hj small s =
+    let e = limit-cellOf b small in
+    stands-same (λ k v p. (→holds k v b (rw e at (p .0)), p .1)) (λ k v p. (rw e (holds→ k v b (p .0)), p .1))
+    (stands-with (b .i) (b .j) (cellOf b) hi hj s)
 
 -- ---- the tables that are worked out of tables
 pub stands-met : {R S : Region} {y z : Square} → Stands R y → Stands S z → Stands (inBoth R S) (met y z)
@@ -149,13 +153,13 @@ stands-met {y = y} {z = z} s t = record {
       (s .out k k₁ v (in-meet-left bounds (tableOf y) (tableOf z) k₁ q), t .out k k₁ v (in-meet-right bounds (tableOf y) (tableOf z) k₁ q));
 }
 
-pub stands-tightened : {R : Region} {z : Square} → Stands R z → Stands R (tightened z)
+pub stands-tightened : {R : Region} {z : Square} → Tightens 1 z → Stands R z → Stands R (tightened z)
 unfolding inSquare
-stands-tightened {z = z} s = record {
+stands-tightened {z = z} fits s = record {
   sized = sized-tightened z;
-  based = rw (table-tightened z) (close-based bounds 5 (s .based));
-  into = λ k k₁ v p. rw (table-tightened z) (close-in bounds (s .into k k₁ v p));
-  out = λ k k₁ v p. s .out k k₁ v (in-close bounds 5 (tableOf z) k₁ (rw (table-tightened z) at p));
+  based = rw (table-tightened z fits) (close-based bounds 5 (s .based));
+  into = λ k k₁ v p. rw (table-tightened z fits) (close-in bounds (s .into k k₁ v p));
+  out = λ k k₁ v p. s .out k k₁ v (in-close bounds 5 (tableOf z) k₁ (rw (table-tightened z fits) at p));
 }
 
 -- ---- "empty": a negative diagonal after tightening
@@ -166,9 +170,9 @@ pub record Some (R : Region) : Type 0 where
   pub valuation : Valuation
   pub holds : R scale valuation
 
-module _ {R : Region} {z : Square} (s : Stands R z) where
+module _ {R : Region} {z : Square} (fits : Tightens 1 z) (s : Stands R z) where
   tightened-ok : empty? (tightened z) ≡ false → Ok bounds 5 (close bounds 5 (tableOf z))
-  tightened-ok e = rw (table-tightened z) at (nonempty-ok (tightened z) e)
+  tightened-ok e = rw (table-tightened z fits) at (nonempty-ok (tightened z) e)
 
   pub some : empty? (tightened z) ≡ false → Some R
   unfolding inSquare
@@ -188,23 +192,23 @@ module _ {R : Region} {z : Square} (s : Stands R z) where
   pub empty-yes : empty? (tightened z) ≡ true → Empty R
   unfolding inSquare
   empty-yes e = record {
-    at = λ k k₁ v r. false-true (sym (ok-nonempty (tightened z) (rw (table-tightened z) (close-ok bounds k₁ (s .into k k₁ v r)))) ∙ e);
+    at = λ k k₁ v r. false-true (sym (ok-nonempty (tightened z) (rw (table-tightened z fits) (close-ok bounds k₁ (s .into k k₁ v r)))) ∙ e);
   }
 
 -- ---- "inside": cell by cell, after tightening
-module _ {R S : Region} {y z : Square} (s : Stands R y) (t : Stands S z) where
+module _ {R S : Region} {y z : Square} (fits : Tightens 1 y) (s : Stands R y) (t : Stands S z) where
   pub inside-yes : inside? (tightened y) z ≡ true → Inside R S
   unfolding inSquare
   inside-yes e = record {
     at = λ k k₁ v r.
-        t .out k k₁ v (in-⊑ bounds k₁ (rw (table-tightened y) at (inside-cells (tightened y) z e)) (close-in bounds (s .into k k₁ v r)));
+        t .out k k₁ v (in-⊑ bounds k₁ (rw (table-tightened y fits) at (inside-cells (tightened y) z e)) (close-in bounds (s .into k k₁ v r)));
   }
 
   pub inside-no : empty? (tightened y) ≡ false → inside? (tightened y) z ≡ false → Inside R S → ⊥
   unfolding inSquare
-  inside-no e f m = false-true (sym f ∙ cells-inside (tightened y) z (rw (table-tightened y) cells))
+  inside-no e f m = false-true (sym f ∙ cells-inside (tightened y) z (rw (table-tightened y fits) cells))
     where
       cells : (i j : ℕ) → i < 5 → j < 5 → bounds ._⊑_ (close bounds 5 (tableOf y) i j) (tableOf z i j)
-      cells i j hi hj = bound-least bounds (good-close bounds (s .based) (tightened-ok s e)) hi hj (tableOf z i j)
+      cells i j hi hj = bound-least bounds (good-close bounds (s .based) (tightened-ok fits s e)) hi hj (tableOf z i j)
           (λ k k₁ v v₀ p. rw (read-same v v₀) at
           (t .into k k₁ v (m .at k k₁ v (s .out k k₁ v (rw (read-same v v₀) (in-close bounds 5 (tableOf y) k₁ p))))) .at i j hi hj)

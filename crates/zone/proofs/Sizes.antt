@@ -1,6 +1,6 @@
--- How large the numbers of a table grow. Assumes nothing.
-use Prim.Native.Nat.{ℕ, zero, suc, _+_, _*_, _/_, _%_, _^_, _≤_, _<_}
-use mathlib.Core.Path.{_≡_}
+-- How large the bounds of a table grow, and how often it can be tightened. Assumes nothing.
+use Prim.Native.Nat.{ℕ, zero, suc, _+_, _-_, _*_, _/_, _%_, _^_, _≤_, _<_}
+use mathlib.Core.Path.{_≡_, refl, sym, ap, subst, _∙_}
 use mathlib.Core.Bool.{Bool, true, false, not, cond, _&&_, _||_}
 use mathlib.Core.List.{List, [], _∷_}
 use mathlib.Core.Logic.{_⊎_, inl, inr}
@@ -8,10 +8,10 @@ use native.Mathlib.Nat.{one-mul, add-mul, mul-le-mul-right, pow-le-pow-right, tw
 use native.Mathlib.Omega.{arith}
 use lib.Dec.{eqb}
 use lib.ListN.{length, getD, set, List·getD-eq-default}
+use lib.Pow.{pow-add}
 use lib.Seq.{getD-set-same, getD-set-other, set-out}
-use lib.Signed.{mag}
-use Rattle.zone.specs.Cells.{unbounded, atMostZero, tighterOf, sum}
-use Rattle.zone.specs.Squares.{Small, cell, listOf, universe, withBound, met, passed, passedBelow, tightened}
+use Rattle.zone.specs.Cells.{unbounded, atMostZero, tighterOf, sum, size, pastEnd}
+use Rattle.zone.specs.Squares.{Small, Tightens, cell, listOf, universe, withBound, met, passed, passedBelow, tightened}
 use Rattle.zone.specs.Squares.{delayedSquare, source, beforeBelow, beforeReset}
 use Rattle.zone.specs.Words.{boundOf, goodBound?}
 use Rattle.zone.specs.Reading.{cellOf, withWord, readFrom, readZone}
@@ -19,30 +19,47 @@ use Rattle.zone.specs.declared.bounds.Bound.{Bound as Cell}
 use Rattle.zone.specs.declared.zones.Zone.{Zone as Square}
 use Rattle.zone.specs.declared.questions.ZoneRead.{ZoneRead}
 use Rattle.zone.proofs.Integers.{lt-or-ge}
-use Rattle.zone.proofs.CellCode.{size-cond, size-tighterOf, size-sum}
-use Rattle.zone.proofs.WordLaws.{number-small}
+use Rattle.zone.proofs.KeyLaws.{size-tighterOf, size-passed, size-cellOf}
+use Rattle.zone.proofs.WordLaws.{good-number}
 use Rattle.zone.proofs.Loops.{listOf-length, listOf-at}
+
+size-cond : (t : Bool) (a b : Cell) {n : ℕ} → size a < n → size b < n → size (cond t a b) < n
+size-cond true a b h k = h
+size-cond false a b h k = k
+
+size-unbounded : size unbounded ≡ 0
+unfolding size
+size-unbounded = refl
+
+size-atMostZero : size atMostZero ≡ 1
+unfolding size
+size-atMostZero = refl
+
+size-pastEnd : size pastEnd ≡ 0
+unfolding size
+size-pastEnd = refl
 
 pub small-weaken : {m n : ℕ} {z : Square} → Small m z → m ≤ n → Small n z
 small-weaken s h = record { at = λ p. let g = s .at p in omega arith }
 
 -- a table is as small as the values it is made of
-small-cells : (f : ℕ → Cell) {n : ℕ} → ((p : ℕ) → mag (f p .d) < n) → Small n (record { cells = listOf f 25 0 })
+small-cells : (f : ℕ → Cell) {n : ℕ} → ((p : ℕ) → size (f p) < n) → Small n (record { cells = listOf f 25 0 })
 small-cells f {n} h = record { at = λ p. by p (lt-or-ge p 25) }
   where
-    by : (p : ℕ) → (p < 25) ⊎ (25 ≤ p) → mag (getD (listOf f 25 0) p unbounded .d) < n
-    by p (inl l) = rw (listOf-at unbounded f 25 p l) (h p)
+    by : (p : ℕ) → (p < 25) ⊎ (25 ≤ p) → size (getD (listOf f 25 0) p pastEnd) < n
+    by p (inl l) = rw (listOf-at pastEnd f 25 p l) (h p)
     by p (inr l) =
         let g = listOf-length f 25 0 in
         let o = h 0 in
-        rw (List·getD-eq-default (listOf f 25 0) unbounded {n = p} (omega arith)) (omega arith)
+        rw (List·getD-eq-default (listOf f 25 0) pastEnd {n = p} (omega arith), size-pastEnd) (omega arith)
 
-pub small-universe : Small 1 universe
+small-universe : Small 2 universe
 small-universe =
-    small-cells _ (λ p. size-cond (eqb (p / 5) 0 || eqb (p / 5) (p % 5)) atMostZero unbounded (omega arith) (omega arith))
+    small-cells _
+    (λ p. size-cond (eqb (p / 5) 0 || eqb (p / 5) (p % 5)) atMostZero unbounded (rw size-atMostZero (omega arith)) (rw size-unbounded (omega arith)))
 
 module _ {n : ℕ} (z : Square) (s : Small n z) where
-  pub small-withBound : (i j : ℕ) (b : Cell) → mag (b .d) < n → Small n (withBound i j b z)
+  pub small-withBound : (i j : ℕ) (b : Cell) → size b < n → Small n (withBound i j b z)
   unfolding withBound
   small-withBound i j b h = record {
     at = λ p. by p (lt-or-ge p (i * 5 + j)) (lt-or-ge (i * 5 + j) p) (lt-or-ge (i * 5 + j) (length (z .cells)));
@@ -54,38 +71,33 @@ module _ {n : ℕ} (z : Square) (s : Small n z) where
       by :
           (p : ℕ) → (p < i * 5 + j) ⊎ (i * 5 + j ≤ p) → (i * 5 + j < p) ⊎ (p ≤ i * 5 + j) →
           (i * 5 + j < length (z .cells)) ⊎ (length (z .cells) ≤ i * 5 + j) →
-          mag (getD (set (z .cells) (i * 5 + j) new) p unbounded .d) < n
-      by p (inl l) k m = rw (getD-set-other (z .cells) (i * 5 + j) p new unbounded (λ q. omega arith)) (s .at p)
-      by p (inr l) (inl k) m = rw (getD-set-other (z .cells) (i * 5 + j) p new unbounded (λ q. omega arith)) (s .at p)
+          size (getD (set (z .cells) (i * 5 + j) new) p pastEnd) < n
+      by p (inl l) k m = rw (getD-set-other (z .cells) (i * 5 + j) p new pastEnd (λ q. omega arith)) (s .at p)
+      by p (inr l) (inl k) m = rw (getD-set-other (z .cells) (i * 5 + j) p new pastEnd (λ q. omega arith)) (s .at p)
       by p (inr l) (inr k) (inl m) =
           let q : p ≡ i * 5 + j = omega arith in
-          rw (q, getD-set-same (z .cells) (i * 5 + j) new unbounded m) (size-tighterOf (cell z i j) b (s .at (i * 5 + j)) h)
+          rw (q, getD-set-same (z .cells) (i * 5 + j) new pastEnd m) (size-tighterOf (cell z i j) b (s .at (i * 5 + j)) h)
       by p (inr l) (inr k) (inr m) = rw (set-out (z .cells) (i * 5 + j) new m) (s .at p)
 
   pub small-met : (y : Square) → Small n y → Small n (met z y)
   small-met y t =
       small-cells _ (λ p. size-tighterOf (cell z (p / 5) (p % 5)) (cell y (p / 5) (p % 5)) (s .at _) (t .at _))
 
-  pub small-passed : (m : ℕ) → Small (n + n) (passed m z)
-  small-passed m = small-cells _ (λ p. at (p / 5) (p % 5))
-    where
-      at : (i j : ℕ) → mag (tighterOf (cell z i j) (sum (cell z i m) (cell z m j)) .d) < n + n
-      at i j =
-          let g = s .at (i * 5 + j) in
-          size-tighterOf (cell z i j) (sum (cell z i m) (cell z m j)) (omega arith)
-          (size-sum (cell z i m) (cell z m j) (s .at _) (s .at _))
+  small-passed : n ≤ 2 ^ 27 → (m : ℕ) → Small (n + n) (passed m z)
+  small-passed h m =
+      small-cells _ (λ p. size-passed (cell z (p / 5) m) (cell z m (p % 5)) (cell z (p / 5) (p % 5)) h (s .at _) (s .at _) (s .at _))
 
   pub small-delayed : Small n (delayedSquare z)
   small-delayed =
       let g = s .at 0 in
       small-cells _
-      (λ p. size-cond (not (eqb (p / 5) 0) && eqb (p % 5) 0) unbounded (cell z (p / 5) (p % 5)) (omega arith) (s .at _))
+      (λ p. size-cond (not (eqb (p / 5) 0) && eqb (p % 5) 0) unbounded (cell z (p / 5) (p % 5)) (rw size-unbounded (omega arith)) (s .at _))
 
--- a bound that is moved to other clocks keeps its number
-module _ {n : ℕ} (z : Square) (s : Small n z) (mask : ℕ) where
+-- a bound that is moved to other clocks keeps its key
+module _ {n : ℕ} (z : Square) (h : 2 ≤ n) (s : Small n z) (mask : ℕ) where
   small-beforeBelow : (p : ℕ) → Small n (beforeBelow mask p z)
   unfolding beforeBelow
-  small-beforeBelow zero = let g = s .at 0 in small-weaken small-universe (omega arith)
+  small-beforeBelow zero = small-weaken small-universe h
   small-beforeBelow (suc p) =
       small-withBound (beforeBelow mask p z) (small-beforeBelow p)
       (source mask (p / 5)) (source mask (p % 5)) (cell z (p / 5) (p % 5)) (s .at _)
@@ -94,45 +106,55 @@ module _ {n : ℕ} (z : Square) (s : Small n z) (mask : ℕ) where
   small-before = small-beforeBelow 25
 
 -- each pass doubles at most
-pub small-passedBelow : (m : ℕ) {n : ℕ} (z : Square) → Small n z → Small (2 ^ m * n) (passedBelow m z)
+small-passedBelow : (m : ℕ) {n : ℕ} (z : Square) → 2 ^ m * n ≤ 2 ^ 28 → Small n z → Small (2 ^ m * n) (passedBelow m z)
 unfolding passedBelow
-small-passedBelow zero {n} z s = small-weaken s (omega (arith, one-mul n))
-small-passedBelow (suc m) {n} z s =
-    small-weaken (small-passed (passedBelow m z) (small-passedBelow m z s) m)
-    (rw (two-pow-succ m, add-mul (2 ^ m) (2 ^ m) n) (omega arith))
+small-passedBelow zero {n} z h s = small-weaken s (omega (arith, one-mul n))
+small-passedBelow (suc m) {n} z h s =
+    let e : 2 ^ suc m * n ≡ 2 ^ m * n + 2 ^ m * n = ap (λ k. k * n) (two-pow-succ m) ∙ add-mul (2 ^ m) (2 ^ m) n in
+    small-weaken (small-passed (passedBelow m z) (small-passedBelow m z (omega arith) s) (omega arith) m) (omega arith)
 
--- as many as come before the last pass
-pub small-passes : (m : ℕ) {n : ℕ} (z : Square) → m < 5 → Small n z → Small (16 * n) (passedBelow m z)
-small-passes m {n} z h s =
-    small-weaken (small-passedBelow m z s)
-    (mul-le-mul-right n (pow-le-pow-right {n = 2} (omega arith) {i = m} {j = 4} (omega arith)))
+-- before the last pass every bound is below 2^27 in size
+pub small-passes : (m : ℕ) (z : Square) → m < 5 → Tightens 1 z → Small (2 ^ 27) (passedBelow m z)
+small-passes m z h s =
+    let k : 2 ^ m * 2 ^ 23 ≤ 2 ^ 27 = mul-le-mul-right (2 ^ 23) (pow-le-pow-right {n = 2} (omega arith) {i = m} {j = 4} (omega arith)) in
+    small-weaken (small-passedBelow m z (omega arith) s) k
 
-pub small-tightened : {n : ℕ} (z : Square) → Small n z → Small (32 * n) (tightened z)
-small-tightened z s = small-passedBelow 5 z s
+-- ---- how often a table can be tightened
+pub tightens-fewer : (m n : ℕ) (z : Square) → m ≤ n → Tightens n z → Tightens m z
+tightens-fewer m n z h s = small-weaken s (pow-le-pow-right {n = 2} (omega arith) {i = 28 - 5 * n} {j = 28 - 5 * m} (omega arith))
+
+pub tightens-less : (n : ℕ) (z : Square) → n < 5 → Tightens (suc n) z → Tightens n (tightened z)
+tightens-less n z h s =
+    let e : 5 + (28 - 5 * suc n) ≡ 28 - 5 * n = omega arith in
+    let f : 2 ^ 5 * 2 ^ (28 - 5 * suc n) ≡ 2 ^ (28 - 5 * n) = sym (pow-add 2 5 (28 - 5 * suc n)) ∙ ap (λ k. 2 ^ k) e in
+    let g : 2 ^ (28 - 5 * n) ≤ 2 ^ 28 = pow-le-pow-right {n = 2} (omega arith) {i = 28 - 5 * n} {j = 28} (omega arith) in
+    subst (λ k. Small k (tightened z)) f (small-passedBelow 5 z (omega arith) s)
+
+pub tightens-universe : Tightens 3 universe
+tightens-universe = small-weaken small-universe (omega arith)
 
 -- ---- a table that is read from bound words
-pub small-withWord : {n : ℕ} (w : ℕ) (z : Square) → 4096 ≤ n → Small n z → Small n (withWord w z)
-unfolding withWord
-small-withWord w z h s =
-    let d = number-small w in small-withBound z s (boundOf w .i) (boundOf w .j) (cellOf (boundOf w)) (omega arith)
+module _ (C w : ℕ) (good : goodBound? C w ≡ true) where
+  pub tightens-withWord : (z : Square) → Tightens 3 z → Tightens 3 (withWord w z)
+  unfolding withWord
+  tightens-withWord z s = small-withBound z s (boundOf w .i) (boundOf w .j) (cellOf (boundOf w)) (size-cellOf (boundOf w) (good-number C w good))
 
-pub small-readFrom :
-    (C : ℕ) (ws : List ℕ) (p : ℕ) (z : Square) {n : ℕ} → 4096 ≤ n → Small n z → Small n (readFrom C ws p z .zone)
+tightens-readFrom : (C : ℕ) (ws : List ℕ) (p : ℕ) (z : Square) → Tightens 3 z → Tightens 3 (readFrom C ws p z .zone)
 unfolding readFrom
-small-readFrom C [] p z h s = s
-small-readFrom C (w ∷ ws) p z {n} h s =
-    by (goodBound? C w) (small-readFrom C ws (suc p) (withWord w z) h (small-withWord w z h s))
+tightens-readFrom C [] p z s = s
+tightens-readFrom C (w ∷ ws) p z s =
+    by (goodBound? C w) (λ g. tightens-readFrom C ws (suc p) (withWord w z) (tightens-withWord C w g z s))
   where
     by :
-        (t : Bool) → Small n (readFrom C ws (suc p) (withWord w z) .zone) →
-        Small n (cond t (readFrom C ws (suc p) (withWord w z)) (record { good = false; place = p; zone = z }) .zone)
-    by true r = r
+        (t : Bool) → (t ≡ true → Tightens 3 (readFrom C ws (suc p) (withWord w z) .zone)) →
+        Tightens 3 (cond t (readFrom C ws (suc p) (withWord w z)) (record { good = false; place = p; zone = z }) .zone)
+    by true r = r refl
     by false r = s
 
-pub small-read : (C : ℕ) (ws : List ℕ) → Small 4096 (readZone C ws .zone)
+pub tightens-read : (C : ℕ) (ws : List ℕ) → Tightens 1 (readZone C ws .zone)
 unfolding readZone
-small-read C ws = small-readFrom C ws 0 universe (omega arith) (small-weaken small-universe (omega arith))
+tightens-read C ws = tightens-fewer 1 3 _ (omega arith) (tightens-readFrom C ws 0 universe tightens-universe)
 
 -- what is read can be tightened
-pub read-fits : (C : ℕ) (ws : List ℕ) (r : ZoneRead) → r ≡ readZone C ws → Small (2 ^ 26) (r .zone)
-read-fits C ws r e = rw e (small-weaken (small-read C ws) (omega arith))
+pub read-fits : (C : ℕ) (ws : List ℕ) (r : ZoneRead) → r ≡ readZone C ws → Tightens 1 (r .zone)
+read-fits C ws r e = rw e (tightens-read C ws)

@@ -1,21 +1,23 @@
 -- Laws of the definitions on bound words. Assumes nothing.
-use Prim.Native.Nat.{ℕ, _/_, _%_, _^_, _≤_, _<_}
-use mathlib.Core.Path.{_≡_, sym, ap}
-use mathlib.Core.Bool.{true, not, _&&_}
+use Prim.Native.Nat.{ℕ, zero, suc, _+_, _/_, _%_, _^_, _≤_, _<_}
+use mathlib.Core.Path.{_≡_, sym, ap, _∙_}
+use mathlib.Core.Bool.{Bool, true, false, cond, not, _&&_}
 use native.Mathlib.Nat.{div-one}
 use native.Mathlib.Omega.{arith}
 use borrow.Author.Tests.{leb-true}
 use lib.Dec.{eqb, leb, ltb}
-use lib.IntN.{ℤ, pos, _-ℤ_}
+use lib.IntN.{ℤ, pos, natAbs, _+ℤ_, _-ℤ_}
 use lib.Signed.{mag}
 use mir.Syntax.{w32}
-use mir.Val.{SFits, toZ, ofZ}
+use mir.Val.{SFits, toZ, ofZ, boolByte}
 use mir.Facts.{toZ-pos, toZ-ofZ}
 use Rattle.zone.specs.Moves.{masked?}
 use Rattle.zone.specs.Words.{bits, kind, boundOf, boundFields?, goodBound?}
+use Rattle.zone.specs.Keys.{keyOf}
 use Rattle.zone.specs.Reading.{cellOf}
-use Rattle.zone.proofs.Bools.{left-true, right-true}
-use Rattle.zone.proofs.Machine.{mag-cond}
+use Rattle.zone.proofs.Bools.{false-true, left-true, right-true}
+use Rattle.zone.proofs.Integers.{abs-diff}
+use Rattle.zone.proofs.Machine.{mag-cond, mag-add}
 
 lowest : (w : ℕ) → w % 8192 ≡ bits 12 0 w
 lowest w = ap (λ (n : ℕ). n % 8192) (sym (div-one w))
@@ -45,16 +47,36 @@ module _ (w : ℕ) where
   unfolding boundOf
   number-is = rw (toZ-ofZ number-fits, toZ-pos w32 {n = w % 8192} (omega arith), lowest w)
 
-  pub cell-is :
-      record {
-        d = toZ w32 (ofZ w32 (toZ w32 (w % 8192) -ℤ pos 4096));
-        strict = eqb (w / 2 ^ 19 % 2) 1;
-        finite = true;
-      } ≡ cellOf (boundOf w)
-  unfolding boundOf
-  cell-is = ap (λ (d : ℤ). record { d = d; strict = eqb (w / 2 ^ 19 % 2) 1; finite = true }) number-is
+  abbrev number : ℤ
+  number = toZ w32 (ofZ w32 (toZ w32 (w % 8192) -ℤ pos 4096))
 
--- ---- the clocks of a good bound
+  pub twice-fits : SFits w32 (number +ℤ number)
+  twice-fits =
+      let h = mag-add (boundOf w .d) (boundOf w .d) number-small number-small in rw number-is (record { sfits = omega arith })
+
+  abbrev key : Bool → ℤ
+  key s = toZ w32 (ofZ w32 (number +ℤ number)) +ℤ toZ w32 (boolByte (not s))
+
+  key-is : (s : Bool) → key s ≡ keyOf (boundOf w .d) s
+  key-is true = rw (toZ-ofZ twice-fits, number-is)
+  key-is false = rw (toZ-ofZ twice-fits, number-is)
+
+  key-small : (s : Bool) → mag (keyOf (boundOf w .d) s) < 8194
+  key-small s = mag-add (boundOf w .d +ℤ boundOf w .d) (pos (cond s 0 1)) (mag-add (boundOf w .d) (boundOf w .d) number-small number-small) (by s)
+    where
+      by : (s : Bool) → mag (pos (cond s 0 1)) < 2
+      by true = omega arith
+      by false = omega arith
+
+  pub key-fits : (s : Bool) → SFits w32 (key s)
+  key-fits s = let h = key-small s in rw (key-is s) (record { sfits = omega arith })
+
+  pub cell-is : record { key = toZ w32 (ofZ w32 (key (eqb (w / 2 ^ 19 % 2) 1))) } ≡ cellOf (boundOf w)
+  unfolding boundOf
+  cell-is =
+      let s : Bool = eqb (w / 2 ^ 19 % 2) 1 in ap (λ (z : ℤ). record { key = z }) (toZ-ofZ (key-fits s) ∙ key-is s)
+
+-- ---- the fields of a good bound
 module _ (C w : ℕ) (good : goodBound? C w ≡ true) where
   clocks-good : (leb (boundOf w .i) C && leb (boundOf w .j) C) ≡ true
   unfolding goodBound? boundFields? boundOf
@@ -65,3 +87,19 @@ module _ (C w : ℕ) (good : goodBound? C w ≡ true) where
 
   pub good-second : boundOf w .j ≤ C
   good-second = leb-true (boundOf w .j) C (right-true (leb (boundOf w .i) C) (leb (boundOf w .j) C) clocks-good)
+
+  -- d is never -4,096
+  number-there : not (eqb (bits 12 0 w) 0) ≡ true
+  unfolding goodBound? boundFields?
+  number-there =
+      right-true (leb (bits 27 24 w) C && leb (bits 23 20 w) C && not (eqb (bits 27 24 w) (bits 23 20 w))) _
+      (left-true _ (eqb (bits 18 13 w) 0) (right-true (eqb (kind w) 5) _ good))
+
+  pub good-number : natAbs (boundOf w .d) < 4096
+  unfolding boundOf
+  good-number =
+      abs-diff (bits 12 0 w) 4096 (omega arith) (by (bits 12 0 w) number-there)
+    where
+      by : (n : ℕ) → not (eqb n 0) ≡ true → 4096 < n + 4096
+      by zero e = false-true e
+      by (suc n) e = omega arith

@@ -1,27 +1,38 @@
--- Algorithm: the bounds that a square table keeps, and what is worked out from them. Assumes nothing.
-use mathlib.Core.Bool.{Bool, true, false, not, cond, _&&_, _||_}
-use lib.IntN.{pos, _+ℤ_}
+-- Algorithm: the bounds that a square table keeps, each as its key, and what is worked out from them. Assumes nothing.
+use Prim.Native.Nat.{ℕ, _^_, max}
+use mathlib.Core.Bool.{Bool, cond, _&&_}
+use lib.IntN.{pos, natAbs, _+ℤ_, _-ℤ_}
 use lib.Signed.{ltZ}
+use Rattle.zone.specs.Keys.{finite?, lowest}
 use Rattle.zone.specs.declared.bounds.Bound.{Bound as Cell}
 
 abbrev pub unbounded : Cell
-unbounded = record { d = pos 0; strict = false; finite = false }
+unbounded = record { key = pos (2 ^ 29) }
 
 abbrev pub atMostZero : Cell
-atMostZero = record { d = pos 0; strict = false; finite = true }
+atMostZero = record { key = pos 1 }
 
--- a is tighter than b: a is finite, and b is not, or a's d is below b's, or the two d are equal and a alone is strict
+-- a is tighter than b: it is not absent, and its key is the smaller
 unfoldable pub tighter? : Cell → Cell → Bool
-tighter? a b = a .finite && (not (b .finite) || (ltZ (a .d) (b .d) || (not (ltZ (b .d) (a .d)) && (a .strict && not (b .strict)))))
+tighter? a b = finite? a && ltZ (a .key) (b .key)
 
--- the first where neither is tighter
+-- the one with the smaller key, the first where neither is smaller
 unfoldable pub tighterOf : Cell → Cell → Cell
-tighterOf a b = cond (tighter? b a) b a
+tighterOf a b = cond (ltZ (b .key) (a .key)) b a
 
--- what a bound of clock i minus clock m and one of clock m minus clock j give for clock i minus clock j
+-- what a bound of clock i minus clock m and one of clock m minus clock j give for clock i minus clock j. It is strict if either is: of the two
+-- lowest bits one is left where both are 1
 unfoldable pub sum : Cell → Cell → Cell
-sum a b = cond (a .finite && b .finite) (record { d = a .d +ℤ b .d; strict = a .strict || b .strict; finite = true }) unbounded
+sum a b = record { key = a .key +ℤ b .key -ℤ pos (max (lowest a) (lowest b)) }
 
 -- tighter than "at most 0", so that it never holds of a clock minus itself
 unfoldable pub negative? : Cell → Bool
 negative? a = tighter? a atMostZero
+
+-- how far a key lies from 0 or, if it is of an absent bound, from that of `unbounded`; sums move both
+unfoldable pub size : Cell → ℕ
+size a = cond (finite? a) (natAbs (a .key)) (natAbs (a .key -ℤ unbounded .key))
+
+-- what an array of bounds reads past its end
+abbrev pub pastEnd : Cell
+pastEnd = record { key = pos 0 }

@@ -3,6 +3,7 @@ use Prim.Native.Nat.{ℕ, suc}
 use mathlib.Core.Bool.{true, false, cond}
 use mathlib.Core.List.{List, [], _∷_}
 use Rattle.zone.specs.Scale.{Bound}
+use Rattle.zone.specs.Keys.{keyOf}
 use Rattle.zone.specs.Words.{boundOf, goodBound?}
 use Rattle.zone.specs.Squares.{withBound, universe}
 use Rattle.zone.specs.declared.bounds.Bound.{Bound as Cell}
@@ -10,7 +11,7 @@ use Rattle.zone.specs.declared.zones.Zone.{Zone as Square}
 use Rattle.zone.specs.declared.questions.ZoneRead.{ZoneRead}
 
 abbrev pub cellOf : Bound → Cell
-cellOf b = record { d = b .d; strict = b .strict; finite = true }
+cellOf b = record { key = keyOf (b .d) (b .strict) }
 
 unfoldable pub withWord : ℕ → Square → Square
 withWord w z = withBound (boundOf w .i) (boundOf w .j) (cellOf (boundOf w)) z

@@ -1,18 +1,17 @@
 -- Algorithm: zones as square tables of bounds, five clocks by five, known as difference bound matrices. Cell i * 5 + j bounds clock i minus
 -- clock j. Assumes nothing.
-use Prim.Native.Nat.{ℕ, zero, suc, _+_, _*_, _/_, _%_, _<_}
+use Prim.Native.Nat.{ℕ, zero, suc, _+_, _-_, _*_, _/_, _%_, _^_, _<_}
 use mathlib.Core.Bool.{Bool, true, not, cond, _&&_, _||_}
 use mathlib.Core.List.{List, [], _∷_}
 use lib.Dec.{eqb}
 use lib.ListN.{getD, set}
-use lib.Signed.{mag}
 use Rattle.zone.specs.Moves.{masked?}
-use Rattle.zone.specs.Cells.{unbounded, atMostZero, tighter?, tighterOf, sum, negative?}
+use Rattle.zone.specs.Cells.{unbounded, atMostZero, tighter?, tighterOf, sum, negative?, size, pastEnd}
 use Rattle.zone.specs.declared.bounds.Bound.{Bound as Cell}
 use Rattle.zone.specs.declared.zones.Zone.{Zone as Square}
 
 abbrev pub cell : Square → ℕ → ℕ → Cell
-cell z i j = getD (z .cells) (i * 5 + j) unbounded
+cell z i j = getD (z .cells) (i * 5 + j) pastEnd
 
 -- the values of f at n numbers from p on
 unfoldable pub listOf {ℓ} : {A : Type ℓ} → (ℕ → A) → ℕ → ℕ → List A
@@ -83,8 +82,13 @@ empty? z = not (all? 5 (λ i. not (negative? (cell z i i))))
 
 -- of a tightened table that is not empty: no bound of the other is tighter
 unfoldable pub inside? : Square → Square → Bool
-inside? y z = all? 25 (λ p. not (tighter? (getD (z .cells) p unbounded) (getD (y .cells) p unbounded)))
+inside? y z = all? 25 (λ p. not (tighter? (getD (z .cells) p pastEnd) (getD (y .cells) p pastEnd)))
 
--- every number of the table is below n in size
+-- every bound of the table is below n in size
 pub record Small (n : ℕ) (z : Square) : Type 0 where
-  pub at : (p : ℕ) → mag (getD (z .cells) p unbounded .d) < n
+  pub at : (p : ℕ) → size (getD (z .cells) p pastEnd) < n
+
+-- the table can be tightened n times more: tightening makes sizes 32 times as large at most, and below 2^28 no sum takes an absent bound for a
+-- finite one, nor a finite one for an absent one
+abbrev pub Tightens : ℕ → Square → Type 0
+Tightens n z = Small (2 ^ (28 - 5 * n)) z

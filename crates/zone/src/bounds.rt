@@ -1,64 +1,54 @@
-// A bound of the difference of two clocks, by value: the tighter of two, their sum, and whether one is negative.
+// A bound of the difference of two clocks in one number, by value: the tighter of two, their sum, and whether one is negative. No branches.
 ghost use mathlib.Core.Path.{_≡_};
 ghost use Prim.Native.Nat.{_<_, _^_};
 ghost use lib.IntN.{_-ℤ_};
-ghost use lib.Signed.{mag};
-ghost use Rattle.zone.specs.Cells.{tighter?, tighterOf, sum, negative?};
+ghost use Rattle.zone.specs.Keys.{PickOf};
+ghost use Rattle.zone.specs.Cells.{tighter?, tighterOf, sum, negative?, size};
 
-// A bound of the difference of two clocks: none unless finite, else at most d time units, or below d if strict.
+// A bound of the difference of two clocks, at most d time units, or below d if strict: its key is 2 * d, and one more unless it is strict. From
+// FINITE up a key is of no bound.
 pub struct Bound {
-    pub d: i32,
-    pub strict: bool,
-    pub finite: bool,
+    pub key: i32,
 }
 
 impl Bound {
-    pub const UNBOUNDED: Bound = Bound {
-        d: 0,
-        strict: false,
-        finite: false,
-    };
+    pub const FINITE: i32 = 0x1000_0000;
 
-    pub const AT_MOST_ZERO: Bound = Bound {
-        d: 0,
-        strict: false,
-        finite: true,
-    };
+    pub const UNBOUNDED: Bound = Bound { key: 0x2000_0000 };
 
-    // How far d lies above the other's; the wider type holds every difference.
+    pub const AT_MOST_ZERO: Bound = Bound { key: 1 };
+
+    // How far the key lies above the other's; the wider type holds every difference.
     pub(crate) fn gap(self, other: Bound) -> i64
-        ensures { λ r. ⌜ r ≡ self .d -ℤ other .d ⌝ }
+        ensures { λ r. ⌜ r ≡ self .key -ℤ other .key ⌝ }
     {
-        self.d as i64 + -(other.d as i64)
+        self.key as i64 + -(other.key as i64)
     }
 
     pub(crate) fn tighter(self, other: Bound) -> bool
         ensures { λ r. ⌜ r ≡ tighter? self other ⌝ }
     {
-        let gap = self.gap(other);
-        self.finite & (!other.finite | ((gap < 0) | ((gap == 0) & (self.strict & !other.strict))))
+        (self.key < Bound::FINITE) & (self.key < other.key)
     }
 
-    // The tighter of the two, the first where neither is.
+    // The tighter of the two, the first where neither is: it holds exactly where both hold.
     pub fn tighter_of(self, other: Bound) -> Bound
-        ensures { λ r. ⌜ r ≡ tighterOf self other ⌝ }
+        ensures { λ r. ⌜ (r ≡ tighterOf self other) × PickOf self other r ⌝ }
     {
-        if other.tighter(self) { other } else { self }
+        let gap = other.gap(self);
+        Bound {
+            key: (self.key as i64 + gap * ((other.key < self.key) as i64)) as i32,
+        }
     }
 
     // What a bound of clock i minus clock m and one of clock m minus clock j give for clock i minus clock j: strict if either is.
     pub(crate) fn sum(self, other: Bound) -> Bound
-        requires { ⌜ (mag (self .d) < 2 ^ 30) × (mag (other .d) < 2 ^ 30) ⌝ }
+        requires { ⌜ (size self < 2 ^ 28) × (size other < 2 ^ 28) ⌝ }
         ensures { λ r. ⌜ r ≡ sum self other ⌝ }
     {
-        if self.finite & other.finite {
-            return Bound {
-                d: self.d + other.d,
-                strict: self.strict | other.strict,
-                finite: true,
-            };
+        Bound {
+            key: self.key + other.key - ((self.key & 1) | (other.key & 1)),
         }
-        Bound::UNBOUNDED
     }
 
     // Tighter than "at most 0", so that it never holds of a clock minus itself.

@@ -37,10 +37,10 @@ pub fn cell_of(word: u32) -> usize
 pub fn bound_of(word: u32) -> Bound
     ensures { λ r. ⌜ r ≡ cellOf (boundOf word) ⌝ }
 {
+    let d = (word % 0x2000) as i32 - 0x1000;
+    let strict = word / 0x8_0000 % 2 == 1;
     Bound {
-        d: (word % 0x2000) as i32 - 0x1000,
-        strict: word / 0x8_0000 % 2 == 1,
-        finite: true,
+        key: d + d + (!strict) as i32,
     }
 }
 

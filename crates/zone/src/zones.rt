@@ -1,9 +1,9 @@
 // Zones as square tables of bounds, by value: meet, tighten, delay, reset, and whether one is empty or lies inside another.
 ghost use mathlib.Core.Path.{_≡_};
-ghost use Prim.Native.Nat.{_<_, _^_};
+ghost use Prim.Native.Nat.{_<_};
 ghost use Rattle.zone.specs.Moves.{masked?};
 ghost use Rattle.zone.specs.Squares.{universe, met, tightened, delayedSquare, source, resetSquare, beforeReset};
-ghost use Rattle.zone.specs.Squares.{listOf, empty?, inside?, Small};
+ghost use Rattle.zone.specs.Squares.{listOf, empty?, inside?, Tightens};
 use crate::bounds::Bound;
 
 // A zone as a square table of bounds, five clocks by five (a difference bound matrix): cell i * 5 + j bounds clock i minus clock j.
@@ -53,13 +53,37 @@ impl Zone {
     pub fn universe() -> Zone
         ensures { λ r. ⌜ r ≡ universe ⌝ }
     {
-        let mut cells = [Bound::UNBOUNDED; 25];
-        for p in 0..25 {
-            if (p / 5 == 0) | (p / 5 == p % 5) {
-                cells[p] = Bound::AT_MOST_ZERO;
-            }
+        let z = Bound::AT_MOST_ZERO;
+        let u = Bound::UNBOUNDED;
+        Zone {
+            cells: [
+                z,
+                z,
+                z,
+                z,
+                z,
+                u,
+                z,
+                u,
+                u,
+                u,
+                u,
+                u,
+                z,
+                u,
+                u,
+                u,
+                u,
+                u,
+                z,
+                u,
+                u,
+                u,
+                u,
+                u,
+                z,
+            ],
         }
-        Zone { cells: cells }
     }
 
     // The valuations of both.
@@ -68,19 +92,16 @@ impl Zone {
     {
         let mut out = self;
         for p in 0..25 {
-            let b = other.cells[p];
-            if b.tighter(self.cells[p]) {
-                out.cells[p] = b;
-            }
+            let old = self.cells[p];
+            out.cells[p] = old.tighter_of(other.cells[p]);
         }
         out
     }
 
     // The same valuations, every bound as tight as any chain of bounds makes it: by the algorithm of Floyd and Warshall, a pass for each
-    // clock m. Where clock i has no bound against m, row i stays. A pass reads the old table: in place it would equal the algorithm only
-    // while no diagonal is negative.
+    // clock m. A pass reads the old table: in place it would equal the algorithm only while no diagonal is negative.
     pub fn tighten(self) -> Zone
-        requires { ⌜ Small (2 ^ 26) self ⌝ }
+        requires { ⌜ Tightens 1 self ⌝ }
         ensures { λ r. ⌜ r ≡ tightened self ⌝ }
     {
         let mut out = self;
@@ -88,13 +109,10 @@ impl Zone {
             let old = out;
             for i in 0..5 {
                 let into = old.cells[i * 5 + m];
-                if into.finite {
-                    for j in 0..5 {
-                        let through = into.sum(old.cells[m * 5 + j]);
-                        if through.tighter(old.cells[i * 5 + j]) {
-                            out.cells[i * 5 + j] = through;
-                        }
-                    }
+                for j in 0..5 {
+                    let direct = old.cells[i * 5 + j];
+                    let through = into.sum(old.cells[m * 5 + j]);
+                    out.cells[i * 5 + j] = direct.tighter_of(through);
                 }
             }
         }
@@ -146,27 +164,23 @@ impl Zone {
     pub fn is_empty(self) -> bool
         ensures { λ r. ⌜ r ≡ empty? self ⌝ }
     {
+        let mut passes = true;
         for i in 0..5 {
             let own = self.cells[i * 6];
-            if own.negative() {
-                return true;
-            }
+            passes = passes & !own.negative();
         }
-        false
+        !passes
     }
 
-    // Of a tightened zone that is not empty: it lies inside the other. An absent bound is never tighter, so only finite ones are compared.
+    // Of a tightened zone that is not empty: it lies inside the other.
     pub fn inside(self, other: Zone) -> bool
         ensures { λ r. ⌜ r ≡ inside? self other ⌝ }
     {
+        let mut passes = true;
         for p in 0..25 {
             let outer = other.cells[p];
-            if outer.finite {
-                if outer.tighter(self.cells[p]) {
-                    return false;
-                }
-            }
+            passes = passes & !outer.tighter(self.cells[p]);
         }
-        true
+        passes
     }
 }

@@ -1,14 +1,15 @@
 //! Prints the figures of docs/FIGURES.md, as Markdown. Meant for a release build.
 //!
 //! `figures`: how long a call takes with the judge, the reading and the plain judge.
-//! `figures --instructions`: how many instructions it needs, where valgrind is there.
+//! `figures --instructions`: how many instructions it needs and how many conditional branches it meets, where valgrind is
+//! there.
 //! `figures --once LINE SIDE N`: runs the call of one line N times and prints nothing; for valgrind.
 
 use std::process::ExitCode;
 
 use outside::comparer::Fault;
 use outside::figures::{self, Time, SIDES};
-use outside::instructions;
+use outside::instructions::{self, Counts};
 use outside::shapes::{self, Shape, LONGEST};
 
 const ROUNDS: usize = 25;
@@ -54,8 +55,8 @@ fn print_instructions() -> Result<(), Fault> {
         println!("valgrind is not there: no instructions are counted.");
         return Ok(());
     }
-    print_head();
-    for (number, shape) in shapes::all().iter().enumerate() {
+    let mut counted = Vec::new();
+    for (number, shape) in shapes::all().into_iter().enumerate() {
         let input = shape.input();
         if input.words() > LONGEST {
             continue;
@@ -64,16 +65,29 @@ fn print_instructions() -> Result<(), Fault> {
         let counts = SIDES
             .map(count)
             .into_iter()
-            .collect::<Result<Vec<u64>, Fault>>()?;
-        let cells: Vec<String> = counts.iter().map(|&count| grouped(count)).collect();
-        let numbers: Vec<f64> = counts.iter().map(|&count| count as f64).collect();
-        print_row(shape, &cells, &numbers);
+            .collect::<Result<Vec<Counts>, Fault>>()?;
+        counted.push((shape, counts));
     }
+    print_counts(&counted, |counts| counts.instructions);
+    println!("\nInstructions of one call, by valgrind's callgrind.\n");
+    print_counts(&counted, |counts| counts.branches);
+    println!("\nConditional branches of one call.\n");
+    print_counts(&counted, |counts| counts.missed);
     println!(
-        "\nInstructions of one call, by valgrind's callgrind. {}.",
+        "\nThose of them that callgrind's predictor missed. {}.",
         figures::processor()
     );
     Ok(())
+}
+
+fn print_counts(counted: &[(Shape, Vec<Counts>)], count: fn(&Counts) -> u64) {
+    print_head();
+    for (shape, counts) in counted {
+        let numbers: Vec<u64> = counts.iter().map(count).collect();
+        let cells: Vec<String> = numbers.iter().map(|&number| grouped(number)).collect();
+        let numbers: Vec<f64> = numbers.iter().map(|&number| number as f64).collect();
+        print_row(shape, &cells, &numbers);
+    }
 }
 
 fn once(line: &str, side: &str, calls: &str) -> Result<(), Fault> {

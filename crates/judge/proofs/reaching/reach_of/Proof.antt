@@ -1,4 +1,4 @@
--- Proof of `reach_of`: constants below 2^17 leave room to tighten, and the two calls one after the other are the definition.
+-- Proof of `reach_of`: what two zones that can be tightened meet in can be tightened, and the two calls one after the other are the definition.
 use mathlib.Core.Path.{ap, _∙_}
 use native.Mathlib.Omega.{arith}
 use borrow.Author.Needs.{needs}
@@ -11,7 +11,7 @@ use Rattle.judge.proofs.reaching.reach_of.Tie as tie
 tighten-requires : tie.Need-tighten-requires
 tighten-requires c κs =
     let start = c .before in
-    met-fits (start .args .waited) (start .args .enabled) _ (c .meet .ensures) (start .pre .0) (start .pre .1) (omega arith) (omega arith)
+    met-fits 2 3 (start .args .waited) (start .args .enabled) _ (c .meet .ensures) (omega arith) (omega arith) (start .pre .0) (start .pre .1)
 
 returns : tie.Need-returns
 unfolding reachSquare

@@ -1,4 +1,4 @@
--- Proof of `waited`: constants below 2^12 leave room to tighten, and the four calls one after the other are the definition.
+-- Proof of `waited`: what two zones that can be tightened meet in can be tightened, and the four calls one after the other are the definition.
 use mathlib.Core.Path.{ap, _∙_}
 use native.Mathlib.Omega.{arith}
 use borrow.Author.Needs.{needs}
@@ -11,7 +11,7 @@ use Rattle.judge.proofs.reaching.waited.Tie as tie
 tighten-requires : tie.Need-tighten-requires
 tighten-requires c κs =
     let start = c .before in
-    met-fits (start .args .zone) (start .args .invariant) _ (c .meet .ensures) (start .pre .0) (start .pre .1) (omega arith) (omega arith)
+    met-fits 3 3 (start .args .zone) (start .args .invariant) _ (c .meet .ensures) (omega arith) (omega arith) (start .pre .0) (start .pre .1)
 
 returns : tie.Need-returns
 unfolding waitedSquare

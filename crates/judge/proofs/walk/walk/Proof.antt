@@ -175,7 +175,7 @@ reach-of-requires : tie.Need-reach-of-requires Inv-loop2 μ-loop2 Inv-loop μ-lo
 reach-of-requires c κs =
     let k = c .before in
     let i = k .before .loop .inv in
-    (i .small, rw (enabled-at k) (row-asked _ _ _ _ i (k .loop-test .taken)))
+    (i .tightens, rw (enabled-at k) (row-asked _ _ _ _ i (k .loop-test .taken)))
 
 mul-kind-of : tie.Need-mul-kind-of Inv-loop2 μ-loop2 Inv-loop μ-loop Inv-nodes μ-nodes
 mul-kind-of c =
@@ -243,7 +243,7 @@ loop-again c =
     (λ y.
     row-blocked _ _ _ _ i (k .loop-test .taken) (reach-is w) (w .before .before .is-empty .ensures) (y .2) (y .3)
     (sym (w .kind-of .ensures) ∙ y .0 .taken) (y .1 .left))
-    (λ y. row-end _ _ _ _ (y .3 .inv) (y .4 .left) (y .6) (y .7) (y .5 .left) (i .small) (i .last))
+    (λ y. row-end _ _ _ _ (y .3 .inv) (y .4 .left) (y .6) (y .7) (y .5 .left) (i .tightens) (i .last))
     (c .if3 .came)
 
 nodes-again : tie.Need-nodes-again Inv-loop2 μ-loop2 Inv-loop μ-loop Inv-nodes μ-nodes

@@ -8,7 +8,7 @@ use Rattle.model.specs.Scan.{WithinLimits}
 use Rattle.model.specs.Index.{startSquare}
 use Rattle.model.proofs.Limits.{limits-scanned}
 use Rattle.model.proofs.ZoneLaws.{ZonesFit, fit-scanned}
-use Rattle.model.proofs.ScanLaws.{start-is, start-small}
+use Rattle.model.proofs.ScanLaws.{start-is, start-tightens}
 use Rattle.model.proofs.Answering.{returned}
 use Rattle.model.proofs.read.index_model.Statement.{statement}
 use Rattle.model.proofs.read.index_model.Tie as tie
@@ -30,7 +30,7 @@ array-copy-out-invariant c = let start = limits (c .before .before .before .befo
 tighten-requires : tie.Need-tighten-requires
 tighten-requires c κs =
     let scan = c .before .before .before .before .before .before .before in
-    rw (c .meet .ensures) (start-small _ _ (fit scan) (start-below scan))
+    rw (c .meet .ensures) (start-tightens _ _ (fit scan) (start-below scan))
 
 first-missing-requires : tie.Need-first-missing-requires
 first-missing-requires c κs =

@@ -132,7 +132,7 @@ loop-again c =
     let go =
     scan-go _ _ _ _ _ (omega arith) (inv .1) (inv .2) (inv .3) (sound k) (seen-step _ _ _ bound e) (index-step _ _ _ _ bound e)
     (zones-bound (here .seen) _ (here .zones) (here .current) _ _ e (rw (inv .2) (inv .1 .slot))
-    (cell .cell-of .ensures) (c .before .bound-of .ensures) (c .tighter-of .ensures)) in
+    (cell .cell-of .ensures) (c .before .bound-of .ensures) (c .tighter-of .ensures .0)) in
     (go .0, go .1, go .2, go .3, inv .4)
 
 element-write-index : tie.Need-element-write-index Inv-loop μ-loop

@@ -127,7 +127,7 @@ joined c =
     ⊎-elim
     (λ w.
     let e = named k 5 (w .0 .keys1) in
-    let cell-is = w .4 .ensures ∙ ap (tighterOf _) (w .3 .ensures) in (
+    let cell-is = w .4 .ensures .0 ∙ ap (tighterOf _) (w .3 .ensures) in (
       w .5 ∙ seen-step _ _ _ _ nodeBound e,
       w .6 ∙ nodes-stay _ _ _ _ (apart k 5 9 refl e),
       held-bound _ _ _ _ _ _ _ room slot-is e (slot (turn (checked k))) (w .8) (w .9) (w .7 ∙ zone-bound _ _ _ _ (w .1 .ensures) cell-is),

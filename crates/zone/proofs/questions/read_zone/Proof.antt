@@ -70,7 +70,7 @@ loop-again c =
     let past = cell .before in (
       omega arith,
       turn past .loop .inv .1 ∙ loop-good _ _ _ _ (past .before .before .before .loop-test .taken) (good past)
-          ∙ ap (readFrom _ _ _) (sym (word-put (word past) _ _ _ _ (cell .cell-of .ensures) (bound .bound-of .ensures) (c .tighter-of .ensures))),
+          ∙ ap (readFrom _ _ _) (sym (word-put (word past) _ _ _ _ (cell .cell-of .ensures) (bound .bound-of .ensures) (c .tighter-of .ensures .0))),
     )
 
 returns-2 : tie.Need-returns-2 Inv-loop μ-loop

@@ -1,21 +1,22 @@
--- Proof of `Bound::sum`: constants below 2^30 in size add without overflow; where not both bounds are finite, the sum is unbounded.
-use Rattle.zone.proofs.CellCode.{no-sum, sum-fits, sum-is}
+-- Proof of `Bound::sum`: keys of small bounds add without overflow, and taking off the larger lowest bit stays in range.
+use Rattle.zone.proofs.KeyCode.{size-mag, both-fits, less-fits, is-sum}
 use Rattle.zone.proofs.bounds.Bound.sum.Statement.{statement}
 use Rattle.zone.proofs.bounds.Bound.sum.Tie as tie
 
-add-t4 : tie.Need-add-t4
-add-t4 c =
-    let start = c .before .before .before .before .before .before .before in
-    sum-fits (start .args .self) (start .args .other) (start .pre .0) (start .pre .1)
+add-t3 : tie.Need-add-t3
+add-t3 c =
+    let start = c .before .before .before .before in
+    both-fits (start .args .self .key) (start .args .other .key) (size-mag (start .args .self) (start .pre .0)) (size-mag (start .args .other) (start .pre .1))
+
+sub-t7 : tie.Need-sub-t7
+sub-t7 c =
+    let start = c .before .before .before .before .before .before .before .before in
+    less-fits (start .args .self .key) (start .args .other .key) (size-mag (start .args .self) (start .pre .0)) (size-mag (start .args .other) (start .pre .1))
 
 returns : tie.Need-returns
 returns c =
-    let branch = c .before .before .before .before .before .before in
-    let start = branch .before .before .before in
-    sum-is _ _ (start .pre .0) (start .pre .1) (branch .if1 .taken)
-
-returns-2 : tie.Need-returns-2
-returns-2 c = no-sum _ _ (c .if1 .left)
+    let start = c .before .before .before .before .before .before .before .before in
+    is-sum (start .args .self) (start .args .other) (size-mag (start .args .self) (start .pre .0)) (size-mag (start .args .other) (start .pre .1))
 
 pub sum-spec : {M : Type 1} → statement M
-sum-spec = tie.close (tie.spec add-t4 returns returns-2)
+sum-spec = tie.close (tie.spec add-t3 sub-t7 returns)

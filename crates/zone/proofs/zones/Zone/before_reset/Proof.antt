@@ -7,7 +7,7 @@ use native.Mathlib.Numerals.{add-one}
 use native.Mathlib.Omega.{arith}
 use borrow.Author.Needs.{needs}
 use lib.ListN.{getD, set}
-use Rattle.zone.specs.Cells.{unbounded, tighterOf}
+use Rattle.zone.specs.Cells.{tighterOf, pastEnd}
 use Rattle.zone.specs.Squares.{listOf, source, withBound, beforeBelow}
 use Rattle.zone.specs.declared.bounds.Bound.{Bound as Cell}
 use Rattle.zone.specs.declared.zones.Zone.{Zone as Square}
@@ -19,7 +19,7 @@ use Rattle.zone.proofs.zones.Zone.before_reset.Tie as tie
 put :
     (mask : ℕ) (z out : Square) {from : List ℕ} → from ≡ listOf (source mask) 5 0 → (p : ℕ) → p < 25 → out ≡ beforeBelow mask p z →
     (new : Cell) →
-    new ≡ tighterOf (getD (out .cells) (getD from (p / 5) 0 * 5 + getD from (p % 5) 0) unbounded) (getD (z .cells) p unbounded) →
+    new ≡ tighterOf (getD (out .cells) (getD from (p / 5) 0 * 5 + getD from (p % 5) 0) pastEnd) (getD (z .cells) p pastEnd) →
     _≡_ {A = Square} (record { cells = set (out .cells) (getD from (p / 5) 0 * 5 + getD from (p % 5) 0) new }) (beforeBelow mask (p + 1) z)
 unfolding beforeBelow withBound
 put mask z out e p h f new g =
@@ -67,7 +67,7 @@ loop-again : tie.Need-loop-again Inv-loop μ-loop
 loop-again c =
     let turn = c .before .before .before .before in (
       omega arith,
-      put _ _ _ (turn .before .before .sources .ensures) (turn .loop .p) (omega arith) (turn .loop .inv .1) _ (c .tighter-of .ensures),
+      put _ _ _ (turn .before .before .sources .ensures) (turn .loop .p) (omega arith) (turn .loop .inv .1) _ (c .tighter-of .ensures .0),
     )
 
 returns : tie.Need-returns Inv-loop μ-loop

@@ -1,46 +1,37 @@
--- Proof of `Zone::is_empty`: at clock i, no clock below i has a negative bound on itself minus itself.
-use Prim.Native.Nat.{ℕ, _≤_, _<_, _-_}
-use mathlib.Core.Path.{_≡_, ap, sym, _∙_}
-use mathlib.Core.Bool.{not, true}
+-- Proof of `Zone::is_empty`: at clock i, `passes` says that no clock below i has a negative bound on itself minus itself.
+use Prim.Native.Nat.{ℕ, _≤_, _-_}
+use mathlib.Core.Path.{_≡_, refl, ap, sym, _∙_}
+use mathlib.Core.Bool.{not}
 use native.Mathlib.Omega.{arith}
-use borrow.Author.Count.{below-none, below-more}
 use borrow.Author.Needs.{needs}
 use Rattle.zone.specs.Cells.{negative?}
-use Rattle.zone.specs.Squares.{cell, empty?}
-use Rattle.zone.proofs.Loops.{all-pass, one-fails, on-diagonal}
+use Rattle.zone.specs.Squares.{cell, all?, empty?}
+use Rattle.zone.proofs.Loops.{all-more, on-diagonal}
 use Rattle.zone.proofs.zones.Zone.is_empty.Statement.{statement}
 use Rattle.zone.proofs.zones.Zone.is_empty.Tie as tie
 
 abbrev Inv-loop : tie.InvT-loop
-Inv-loop self i₀ i = (i ≤ 5) × ((k : ℕ) → k < i → not (negative? (cell self k k)) ≡ true)
+Inv-loop self passes₀ i₀ passes i = (i ≤ 5) × (passes ≡ all? i (λ k. not (negative? (cell self k k))))
 
 abbrev μ-loop : tie.MeasureT-loop
-μ-loop self i₀ i = 5 - i
+μ-loop self passes₀ i₀ passes i = 5 - i
 
--- what the call tells of the clock's own bound
-own :
-    (c : tie.After-negative Inv-loop μ-loop) →
-    let turn = c .before .before .before .loop in
-    negative? (cell (c .before .before .before .before .args .t1) (turn .i) (turn .i)) ≡ c .negative .result
-own c = ap negative? (on-diagonal (c .before .before .before .before .args .t1) _) ∙ sym (c .negative .ensures)
-
-returns : tie.Need-returns Inv-loop μ-loop
-unfolding empty?
-returns c =
-    let turn = c .before .before .before .before .loop in
-    sym (ap not (one-fails 5 _ (turn .i) (omega arith) (ap not (own (c .before) ∙ c .if1 .taken))))
+loop-holds : tie.Need-loop-holds Inv-loop μ-loop
+unfolding all?
+loop-holds c = (omega arith, refl)
 
 loop-again : tie.Need-loop-again Inv-loop μ-loop
 loop-again c =
-    let turn = c .before .before .before .before .loop in
-    (omega arith, below-more _ _ (turn .inv .1) (ap not (own (c .before) ∙ c .if1 .left)))
+    let turn = c .before .before .before .loop in
+    let zone = c .before .before .before .before .args .t1 in
+    (omega arith, all-more (turn .i) _ (turn .inv .1) (ap not (c .negative .ensures ∙ ap negative? (sym (on-diagonal zone (turn .i))))))
 
-returns-2 : tie.Need-returns-2 Inv-loop μ-loop
+returns : tie.Need-returns Inv-loop μ-loop
 unfolding empty?
-returns-2 c = sym (ap not (all-pass 5 _ (λ k h. c .before .loop .inv .1 k (omega arith))))
+returns c = let e : c .before .loop .i ≡ 5 = omega arith in ap not (rw e at (c .before .loop .inv .1))
 
 pub is-empty-spec : {M : Type 1} → statement M
 is-empty-spec =
     tie.close
-    (tie.spec Inv-loop μ-loop (λ c. (omega arith, below-none _)) (λ c. search needs) (λ c. search needs) (λ c. search needs) (λ c κs. search needs)
-    returns (λ c. search needs) (λ c. search needs) loop-again returns-2)
+    (tie.spec Inv-loop μ-loop loop-holds (λ c. search needs) (λ c. search needs) (λ c. search needs) (λ c κs. search needs) (λ c. search needs)
+    (λ c. search needs) loop-again returns)

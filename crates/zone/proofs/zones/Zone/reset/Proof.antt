@@ -5,7 +5,7 @@ use mathlib.Core.List.{List}
 use native.Mathlib.Omega.{arith}
 use borrow.Author.Needs.{needs}
 use lib.ListN.{getD, length-map}
-use Rattle.zone.specs.Cells.{unbounded}
+use Rattle.zone.specs.Cells.{pastEnd}
 use Rattle.zone.specs.Squares.{cell, listOf, source, resetSquare}
 use Rattle.zone.specs.declared.zones.Zone.{Zone as Square}
 use Rattle.zone.proofs.Loops.{listOf-length, Filled, unfilled, stored, same-place, filled}
@@ -32,13 +32,13 @@ sources-within mask e i j hi hj =
 
 abbrev Inv-loop2 : tie.InvT-loop2
 Inv-loop2 mask self from out₀ i row j₀ out j =
-    (j ≤ 5) × Filled unbounded 25 (resetSquare mask self .cells) (self .cells) (i * 5 + j) (out .cells)
+    (j ≤ 5) × Filled pastEnd 25 (resetSquare mask self .cells) (self .cells) (i * 5 + j) (out .cells)
 
 abbrev μ-loop2 : tie.MeasureT-loop2
 μ-loop2 mask self from out₀ i row j₀ out j = 5 - j
 
 abbrev Inv-loop : tie.InvT-loop
-Inv-loop mask self from out₀ i₀ out i = (i ≤ 5) × Filled unbounded 25 (resetSquare mask self .cells) (self .cells) (i * 5) (out .cells)
+Inv-loop mask self from out₀ i₀ out i = (i ≤ 5) × Filled pastEnd 25 (resetSquare mask self .cells) (self .cells) (i * 5) (out .cells)
 
 abbrev μ-loop : tie.MeasureT-loop
 μ-loop mask self from out₀ i₀ out i = 5 - i
