@@ -1,7 +1,7 @@
 -- What the machine's arithmetic on two keys comes to: the pick in 64 bits and the sum in 32. Assumes nothing.
 use Prim.Native.Nat.{ℕ, zero, suc, _+_, _-_, _*_, _%_, _^_, _<_, max}
 use mathlib.Core.Path.{_≡_, refl, ap, ap₂, _∙_}
-use mathlib.Core.Bool.{Bool, true, false, cond, _&&_}
+use mathlib.Core.Bool.{Bool, true, false, cond}
 use native.Mathlib.Omega.{arith}
 use lib.Dec.{ltb}
 use lib.Bits.{bitAnd, bitOr, and-mask}
@@ -10,9 +10,9 @@ use lib.Signed.{mag, ltZ}
 use mir.Syntax.{w32, w64}
 use mir.Val.{SFits, toZ, ofZ, boolByte}
 use mir.Facts.{toZ-ofZ, toZ-pos}
-use Rattle.zone.specs.Cells.{tighter?, tighterOf, sum, size}
+use Rattle.zone.specs.Cells.{tighterOf, sum, size}
 use Rattle.zone.specs.declared.bounds.Bound.{Bound as Cell}
-use Rattle.zone.proofs.Machine.{mag-add, back32, back64}
+use Rattle.zone.proofs.Machine.{mag-add, back32, back64, difference, wide-difference}
 use Rattle.zone.proofs.Integers.{abs-parts, parts-diff}
 
 -- ---- the pick: a key plus the gap to the other, times the test whether that is smaller
@@ -30,48 +30,45 @@ mag-chosen : (t : Bool) (a b : ℤ) {n : ℕ} → mag a < n → mag b < n → ma
 mag-chosen true a b h k = h
 mag-chosen false a b h k = k
 
-module _ (a b g : ℤ) (h : mag a < 2 ^ 31) (k : mag b < 2 ^ 31) (small : mag g < 2 ^ 63) (e : g ≡ b -ℤ a) where
+-- whatever the test t says, the outcome is one of the keys
+module _ (t : Bool) (a b : ℤ) (h : mag a < 2 ^ 31) (k : mag b < 2 ^ 31) where
+  -- the difference as the machine has it, times the test
   abbrev part : ℤ
-  part = toZ w64 (ofZ w64 g) *ℤ toZ w64 (boolByte (ltZ (toZ w32 (ofZ w32 b)) (toZ w32 (ofZ w32 a))))
+  part =
+      toZ w64
+      (ofZ w64 (toZ w64 (ofZ w64 (toZ w32 (ofZ w32 b))) +ℤ toZ w64 (ofZ w64 (pos 0 -ℤ toZ w64 (ofZ w64 (toZ w32 (ofZ w32 a)))))))
+      *ℤ toZ w64 (boolByte t)
 
-  part-is : part ≡ cond (ltZ b a) g (pos 0)
-  part-is = rw (back32 a h, back32 b k, back64 g small) (times-test (ltZ b a) g)
+  part-is : part ≡ cond t (b -ℤ a) (pos 0)
+  part-is = rw (wide-difference b a k h) (times-test t (b -ℤ a))
 
   pub part-fits : SFits w64 part
-  part-fits = rw part-is (record { sfits = mag-chosen (ltZ b a) g (pos 0) small (omega arith) })
+  part-fits = rw part-is (record { sfits = mag-chosen t (b -ℤ a) (pos 0) (difference b a k h .sfits) (omega arith) })
 
   abbrev whole : ℤ
   whole = toZ w64 (ofZ w64 (toZ w32 (ofZ w32 a))) +ℤ toZ w64 (ofZ w64 part)
 
-  whole-is : whole ≡ cond (ltZ b a) b a
-  whole-is =
-      rw (toZ-ofZ part-fits, part-is, back32 a h, back64 a (omega arith), e) (chosen (ltZ b a) a b)
+  whole-is : whole ≡ cond t b a
+  whole-is = rw (toZ-ofZ part-fits, part-is, back32 a h, back64 a (omega arith)) (chosen t a b)
 
   pub whole-fits : SFits w64 whole
-  whole-fits = rw whole-is (record { sfits = mag-chosen (ltZ b a) b a (omega arith) (omega arith) })
+  whole-fits = rw whole-is (record { sfits = mag-chosen t b a (omega arith) (omega arith) })
 
   pub pick-fits : SFits w32 (toZ w64 (ofZ w64 whole))
-  pick-fits = rw (toZ-ofZ whole-fits, whole-is) (record { sfits = mag-chosen (ltZ b a) b a k h })
+  pick-fits = rw (toZ-ofZ whole-fits, whole-is) (record { sfits = mag-chosen t b a k h })
 
-  pick-is : toZ w32 (ofZ w32 (toZ w64 (ofZ w64 whole))) ≡ cond (ltZ b a) b a
+  pick-is : toZ w32 (ofZ w32 (toZ w64 (ofZ w64 whole))) ≡ cond t b a
   pick-is = toZ-ofZ pick-fits ∙ toZ-ofZ whole-fits ∙ whole-is
 
 pub is-tighterOf :
-    (a b : Cell) (g : ℤ) (h : mag (a .key) < 2 ^ 31) (k : mag (b .key) < 2 ^ 31) (small : mag g < 2 ^ 63) (e : g ≡ b .key -ℤ a .key) →
-    record { key = toZ w32 (ofZ w32 (toZ w64 (ofZ w64 (whole (a .key) (b .key) g h k small e)))) } ≡ tighterOf a b
+    (t : Bool) (a b : Cell) (h : mag (a .key) < 2 ^ 31) (k : mag (b .key) < 2 ^ 31) → t ≡ ltZ (b .key) (a .key) →
+    record { key = toZ w32 (ofZ w32 (toZ w64 (ofZ w64 (whole t (a .key) (b .key) h k)))) } ≡ tighterOf a b
 unfolding tighterOf
-is-tighterOf a b g h k small e = ap (λ (z : ℤ). record { key = z }) (pick-is (a .key) (b .key) g h k small e) ∙ by (ltZ (b .key) (a .key))
+is-tighterOf t a b h k e = ap (λ (z : ℤ). record { key = z }) (pick-is t (a .key) (b .key) h k) ∙ by t ∙ ap (λ (c : Bool). cond c b a) e
   where
     by : (t : Bool) → _≡_ {A = Cell} (record { key = cond t (b .key) (a .key) }) (cond t b a)
     by true = refl
     by false = refl
-
--- ---- the test, of keys as the machine has them
-pub is-tighter :
-    (a b : Cell) → mag (a .key) < 2 ^ 31 → mag (b .key) < 2 ^ 31 →
-    (ltZ (toZ w32 (ofZ w32 (a .key))) (pos (2 ^ 28)) && ltZ (toZ w32 (ofZ w32 (a .key))) (toZ w32 (ofZ w32 (b .key)))) ≡ tighter? a b
-unfolding tighter?
-is-tighter a b h k = rw (back32 (a .key) h, back32 (b .key) k)
 
 -- ---- the sum: two keys, less the larger of their lowest bits
 low-bit : (z : ℤ) → mag z < 2 ^ 31 → bitAnd (ofZ w32 z) 1 ≡ natAbs z % 2
@@ -120,24 +117,24 @@ module _ (a b : ℤ) (h : mag a < 3 * 2 ^ 28) (k : mag b < 3 * 2 ^ 28) where
       ap (toZ w32) (ap₂ bitOr (low-bit a (omega arith)) (low-bit b (omega arith)) ∙ or-bits (natAbs a % 2) (natAbs b % 2) (omega arith) (omega arith))
       ∙ toZ-pos w32 {n = larger} (omega arith)
 
-  abbrev less : ℤ
-  less =
+  abbrev rest : ℤ
+  rest =
       toZ w32 (ofZ w32 (toZ w32 (ofZ w32 a) +ℤ toZ w32 (ofZ w32 b)))
       -ℤ toZ w32 (bitOr (bitAnd (ofZ w32 a) 1) (bitAnd (ofZ w32 b) 1))
 
-  less-is : less ≡ a +ℤ b -ℤ pos larger
-  less-is = rw (bit-is, toZ-ofZ both-fits, back32 a (omega arith), back32 b (omega arith)) refl
+  rest-is : rest ≡ a +ℤ b -ℤ pos larger
+  rest-is = rw (bit-is, toZ-ofZ both-fits, back32 a (omega arith), back32 b (omega arith)) refl
 
-  pub less-fits : SFits w32 less
-  less-fits =
-      rw less-is
+  pub rest-fits : SFits w32 rest
+  rest-fits =
+      rw rest-is
       (record { sfits = let g = mag-add (a +ℤ b) (negℤ (pos larger)) both (neg-bit larger (omega arith)) in omega arith })
 
-  less-back : toZ w32 (ofZ w32 less) ≡ a +ℤ b -ℤ pos larger
-  less-back = toZ-ofZ less-fits ∙ less-is
+  rest-back : toZ w32 (ofZ w32 rest) ≡ a +ℤ b -ℤ pos larger
+  rest-back = toZ-ofZ rest-fits ∙ rest-is
 
 pub is-sum :
     (a b : Cell) (h : mag (a .key) < 3 * 2 ^ 28) (k : mag (b .key) < 3 * 2 ^ 28) →
-    record { key = toZ w32 (ofZ w32 (less (a .key) (b .key) h k)) } ≡ sum a b
+    record { key = toZ w32 (ofZ w32 (rest (a .key) (b .key) h k)) } ≡ sum a b
 unfolding sum
-is-sum a b h k = ap (λ (z : ℤ). record { key = z }) (less-back (a .key) (b .key) h k)
+is-sum a b h k = ap (λ (z : ℤ). record { key = z }) (rest-back (a .key) (b .key) h k)

@@ -45,7 +45,7 @@ module _ (a b : ℤ) (h : mag a < 2 ^ 31) (k : mag b < 2 ^ 31) where
   negated : SFits w64 (negℤ b)
   negated = record { sfits = let l = mag-neg b k in omega arith }
 
-  difference : SFits w64 (a -ℤ b)
+  pub difference : SFits w64 (a -ℤ b)
   difference = record { sfits = let l = mag-add a (negℤ b) h (mag-neg b k) in omega arith }
 
   pub wide-neg : SFits w64 (pos 0 -ℤ toZ w64 (ofZ w64 (toZ w32 (ofZ w32 b))))

@@ -11,7 +11,7 @@ use lib.ListN.{length, getD, set, List·getD-eq-default}
 use lib.Pow.{pow-add}
 use lib.Seq.{getD-set-same, getD-set-other, set-out}
 use Rattle.zone.specs.Cells.{unbounded, atMostZero, tighterOf, sum, size, pastEnd}
-use Rattle.zone.specs.Squares.{Small, Tightens, cell, listOf, universe, withBound, met, passed, passedBelow, tightened}
+use Rattle.zone.specs.Squares.{Small, Tightens, cell, listOf, squareOf, universe, withBound, met, passed, passedBelow, tightened}
 use Rattle.zone.specs.Squares.{delayedSquare, source, beforeBelow, beforeReset}
 use Rattle.zone.specs.Words.{boundOf, goodBound?}
 use Rattle.zone.specs.Reading.{cellOf, withWord, readFrom, readZone}
@@ -53,10 +53,13 @@ small-cells f {n} h = record { at = λ p. by p (lt-or-ge p 25) }
         let o = h 0 in
         rw (List·getD-eq-default (listOf f 25 0) pastEnd {n = p} (omega arith), size-pastEnd) (omega arith)
 
+small-square : (f : ℕ → ℕ → Cell) {n : ℕ} → ((i j : ℕ) → size (f i j) < n) → Small n (squareOf f)
+small-square f h = small-cells _ (λ p. h _ _)
+
 small-universe : Small 2 universe
 small-universe =
-    small-cells _
-    (λ p. size-cond (eqb (p / 5) 0 || eqb (p / 5) (p % 5)) atMostZero unbounded (rw size-atMostZero (omega arith)) (rw size-unbounded (omega arith)))
+    small-square _
+    (λ i j. size-cond (eqb i 0 || eqb i j) atMostZero unbounded (rw size-atMostZero (omega arith)) (rw size-unbounded (omega arith)))
 
 module _ {n : ℕ} (z : Square) (s : Small n z) where
   pub small-withBound : (i j : ℕ) (b : Cell) → size b < n → Small n (withBound i j b z)
@@ -81,17 +84,16 @@ module _ {n : ℕ} (z : Square) (s : Small n z) where
 
   pub small-met : (y : Square) → Small n y → Small n (met z y)
   small-met y t =
-      small-cells _ (λ p. size-tighterOf (cell z (p / 5) (p % 5)) (cell y (p / 5) (p % 5)) (s .at _) (t .at _))
+      small-square _ (λ i j. size-tighterOf (cell z i j) (cell y i j) (s .at _) (t .at _))
 
   small-passed : n ≤ 2 ^ 27 → (m : ℕ) → Small (n + n) (passed m z)
   small-passed h m =
-      small-cells _ (λ p. size-passed (cell z (p / 5) m) (cell z m (p % 5)) (cell z (p / 5) (p % 5)) h (s .at _) (s .at _) (s .at _))
+      small-square _ (λ i j. size-passed (cell z i m) (cell z m j) (cell z i j) h (s .at _) (s .at _) (s .at _))
 
   pub small-delayed : Small n (delayedSquare z)
   small-delayed =
       let g = s .at 0 in
-      small-cells _
-      (λ p. size-cond (not (eqb (p / 5) 0) && eqb (p % 5) 0) unbounded (cell z (p / 5) (p % 5)) (rw size-unbounded (omega arith)) (s .at _))
+      small-square _ (λ i j. size-cond (not (eqb i 0) && eqb j 0) unbounded (cell z i j) (rw size-unbounded (omega arith)) (s .at _))
 
 -- a bound that is moved to other clocks keeps its key
 module _ {n : ℕ} (z : Square) (h : 2 ≤ n) (s : Small n z) (mask : ℕ) where

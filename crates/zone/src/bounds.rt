@@ -1,7 +1,7 @@
 // A bound of the difference of two clocks in one number, by value: the tighter of two, their sum, and whether one is negative. No branches.
 ghost use mathlib.Core.Path.{_≡_};
 ghost use Prim.Native.Nat.{_<_, _^_};
-ghost use lib.IntN.{_-ℤ_};
+ghost use lib.Signed.{ltZ};
 ghost use Rattle.zone.specs.Keys.{PickOf};
 ghost use Rattle.zone.specs.Cells.{tighter?, tighterOf, sum, negative?, size};
 
@@ -18,26 +18,28 @@ impl Bound {
 
     pub const AT_MOST_ZERO: Bound = Bound { key: 1 };
 
-    // How far the key lies above the other's; the wider type holds every difference.
-    pub(crate) fn gap(self, other: Bound) -> i64
-        ensures { λ r. ⌜ r ≡ self .key -ℤ other .key ⌝ }
+    // Whether the key is the smaller one.
+    pub(crate) fn below(self, other: Bound) -> bool
+        ensures { λ r. ⌜ r ≡ ltZ (self .key) (other .key) ⌝ }
     {
-        self.key as i64 + -(other.key as i64)
+        self.key < other.key
     }
 
     pub(crate) fn tighter(self, other: Bound) -> bool
         ensures { λ r. ⌜ r ≡ tighter? self other ⌝ }
     {
-        (self.key < Bound::FINITE) & (self.key < other.key)
+        (self.key < Bound::FINITE) & self.below(other)
     }
 
-    // The tighter of the two, the first where neither is: it holds exactly where both hold.
+    // The tighter of the two, the first where neither is: it holds exactly where both hold. The wider type holds every difference.
     pub fn tighter_of(self, other: Bound) -> Bound
         ensures { λ r. ⌜ (r ≡ tighterOf self other) × PickOf self other r ⌝ }
     {
-        let gap = other.gap(self);
+        let first = self.key as i64;
+        let second = other.key as i64;
+        let less = other.below(self);
         Bound {
-            key: (self.key as i64 + gap * ((other.key < self.key) as i64)) as i32,
+            key: (first + (second + -first) * (less as i64)) as i32,
         }
     }
 

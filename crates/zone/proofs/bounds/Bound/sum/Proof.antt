@@ -1,5 +1,5 @@
 -- Proof of `Bound::sum`: keys of small bounds add without overflow, and taking off the larger lowest bit stays in range.
-use Rattle.zone.proofs.KeyCode.{size-mag, both-fits, less-fits, is-sum}
+use Rattle.zone.proofs.KeyCode.{size-mag, both-fits, rest-fits, is-sum}
 use Rattle.zone.proofs.bounds.Bound.sum.Statement.{statement}
 use Rattle.zone.proofs.bounds.Bound.sum.Tie as tie
 
@@ -11,7 +11,7 @@ add-t3 c =
 sub-t7 : tie.Need-sub-t7
 sub-t7 c =
     let start = c .before .before .before .before .before .before .before .before in
-    less-fits (start .args .self .key) (start .args .other .key) (size-mag (start .args .self) (start .pre .0)) (size-mag (start .args .other) (start .pre .1))
+    rest-fits (start .args .self .key) (start .args .other .key) (size-mag (start .args .self) (start .pre .0)) (size-mag (start .args .other) (start .pre .1))
 
 returns : tie.Need-returns
 returns c =

@@ -1,10 +1,13 @@
--- Proof of `Bound::tighter`: both comparisons are those of the definition, of keys that read back as they are.
-use Rattle.zone.proofs.KeyCode.{is-tighter}
+-- Proof of `Bound::tighter`: the key reads back as it is, so both tests are those of the definition.
+use borrow.Author.Needs.{needs}
+use Rattle.zone.specs.Cells.{tighter?}
+use Rattle.zone.proofs.Machine.{back32}
 use Rattle.zone.proofs.bounds.Bound.tighter.Statement.{statement}
 use Rattle.zone.proofs.bounds.Bound.tighter.Tie as tie
 
 returns : tie.Need-returns
-returns c = is-tighter _ _ (c .before .before .struct-told2 .given .0 .1) (c .struct-told3 .given .0 .1)
+unfolding tighter?
+returns c = rw (back32 (c .before .before .before .args .self .key) (c .before .struct-told .given .0 .1), c .below .ensures)
 
 pub tighter-spec : {M : Type 1} → statement M
-tighter-spec = tie.close (tie.spec returns)
+tighter-spec = tie.close (tie.spec (λ c κs. search needs) returns)
