@@ -20,12 +20,10 @@ pub fn has_valgrind() -> bool {
 const BY_VECTORS: &str =
     "glibc.cpu.x86_rep_movsb_threshold=0x7fffffff:glibc.cpu.x86_rep_stosb_threshold=0x7fffffff";
 
-/// What callgrind counts: instructions, conditional branches, and those of them that its predictor missed.
-#[derive(Clone, Copy)]
+/// What callgrind counts: instructions, and conditional branches among them.
 pub struct Counts {
     pub instructions: u64,
     pub branches: u64,
-    pub missed: u64,
 }
 
 /// The counts for one call of a side on the line of this number. What a run of the program needs
@@ -34,11 +32,9 @@ pub fn per_call(line: usize, side: &str, input: &Input) -> Result<Counts, Fault>
     let calls = 1 + 20_000 / input.words() as u64;
     let fewer = of_run(line, side, calls)?;
     let more = of_run(line, side, 2 * calls)?;
-    let each = |fewer: u64, more: u64| more.saturating_sub(fewer) / calls;
     Ok(Counts {
-        instructions: each(fewer.instructions, more.instructions),
-        branches: each(fewer.branches, more.branches),
-        missed: each(fewer.missed, more.missed),
+        instructions: (more.instructions - fewer.instructions) / calls,
+        branches: (more.branches - fewer.branches) / calls,
     })
 }
 
@@ -61,21 +57,14 @@ fn of_run(line: usize, side: &str, calls: u64) -> Result<Counts, Fault> {
     }
 }
 
-/// The numbers of callgrind's line `Collected : Ir Bc Bcm Bi Bim`.
+/// The first two numbers of callgrind's line `Collected : Ir Bc Bcm Bi Bim`.
 fn collected(said: &str) -> Option<Counts> {
     let (_, numbers) = said
         .lines()
         .find_map(|line| line.split_once("Collected : "))?;
-    let numbers: Vec<u64> = numbers
-        .split_whitespace()
-        .map_while(|number| number.parse().ok())
-        .collect();
-    match numbers[..] {
-        [instructions, branches, missed, _, _] => Some(Counts {
-            instructions,
-            branches,
-            missed,
-        }),
-        _ => None,
-    }
+    let mut numbers = numbers.split_whitespace().map(str::parse);
+    Some(Counts {
+        instructions: numbers.next()?.ok()?,
+        branches: numbers.next()?.ok()?,
+    })
 }

@@ -84,7 +84,7 @@ module _ (words : List ℕ) (r : ModelRead) (es : List Square) (t : TableRead) w
   -- before the row of the action a, of those up to `end`, of the node n
   pub record AtRow (n : ℕ) (waited : Square) (limit end : ℕ) (f : Finding) (at a : ℕ) : Type 0 where
     pub none : f ≡ finding.None
-    pub tightens : Tightens 2 waited
+    pub tightens : Tightens 1 waited
     pub last : end ≤ 32
     pub fits : RowsInRange words r es t (end - a) a at
     pub onward : walked words r es t ≡ rowsFrom words r es t waited limit (behindNode n) (end - a) a at
@@ -164,7 +164,7 @@ module _ (words : List ℕ) (r : ModelRead) (es : List Square) (t : TableRead) w
       one-fits : RowsInRange words r es t (suc (end - suc a)) a at
       one-fits = rw (← one-left end a h) (i .fits)
 
-      pub row-asked : Tightens 3 (getD es a universe)
+      pub row-asked : Tightens 1 (getD es a universe)
       unfolding RowsInRange
       row-asked = one-fits .0
 
@@ -263,7 +263,7 @@ module _ (words : List ℕ) (r : ModelRead) (es : List Square) (t : TableRead) w
       sum-large k = sym (none-left ∙ rw (lt-leb _ _ k))
 
       pub row-end :
-          {f′ : Finding} {at′ : ℕ} → f′ ≡ f → at′ ≡ at → sum ≤ limit → Tightens 2 waited → end ≤ 32 →
+          {f′ : Finding} {at′ : ℕ} → f′ ≡ f → at′ ≡ at → sum ≤ limit → Tightens 1 waited → end ≤ 32 →
           AtRow n waited limit end f′ at′ (a + 1)
       unfolding successorsFrom
       row-end ef ea k tightens last′ =

@@ -13,6 +13,7 @@ use Rattle.model.specs.Model.{Action, Location, Model}
 use Rattle.model.specs.States.{locationAt}
 use Rattle.model.specs.Indexed.{Each, LocationAt, Indexed}
 use Rattle.model.specs.declared.read.ModelRead.{ModelRead}
+use Rattle.zone.proofs.Sizes.{tightens-fewer}
 use Rattle.model.proofs.ZoneLaws.{tightens-bounds}
 use Rattle.model.proofs.GoodModel.{GoodModel}
 use Rattle.model.proofs.WellFormed.{WellFormed}
@@ -46,8 +47,10 @@ module _ (M : Model) (words : List ℕ) (r : ModelRead) (t : TableRead) (x : Ind
   abbrev es : List Square
   es = enabledSquares (r .index) (r .zones)
 
-  enabled-in-range : (a : ℕ) (A : Action) → ActionIs M r a A → Tightens 3 (getD es a universe)
-  enabled-in-range a A y = rw (enabled-at (r .index) (r .zones) a (y .limit) (y .there)) (enabled-tightens x good (y .at) (y .good) (y .formed .edges))
+  enabled-in-range : (a : ℕ) (A : Action) → ActionIs M r a A → Tightens 1 (getD es a universe)
+  enabled-in-range a A y =
+      rw (enabled-at (r .index) (r .zones) a (y .limit) (y .there))
+      (tightens-fewer 1 3 _ (omega arith) (enabled-tightens x good (y .at) (y .good) (y .formed .edges)))
 
   rows-in-range :
       (nodes : ℕ) (As : List Action) (a at : ℕ) (ws : List ℕ) → Each (ActionIs M r) a As → drop at words ≡ ws → RowsStand nodes As ws →
@@ -80,8 +83,10 @@ module _ (M : Model) (words : List ℕ) (r : ModelRead) (t : TableRead) (x : Ind
         let rows : RowsInRange words r es t (length (L .actions)) (getD (r .index .actions) (N .location) 0) (suc (N .place)) =
         rows-in-range (length (W .nodes)) (L .actions) _ (suc (N .place)) _ (actions-at M r x good formed (N .location) (g .exists)) refl stands in
         record {
-          zone = rw (k .zone) (tightens-bounds (N .zone) (g .zone));
-          invariant = rw (k .location, location-is .invariant) (tightens-bounds (L .invariant) (good .invariants (N .location)));
+          zone = rw (k .zone) (tightens-fewer 2 3 _ (omega arith) (tightens-bounds (N .zone) (g .zone)));
+          invariant =
+              rw (k .location, location-is .invariant)
+              (tightens-fewer 2 3 _ (omega arith) (tightens-bounds (L .invariant) (good .invariants (N .location))));
           place = rw (k .place) (g .place);
           actions = rw (k .location, next) (location-is .limit);
           rows = rw (k .location, k .place, actions-count M r x good formed (N .location) (g .exists)) rows;

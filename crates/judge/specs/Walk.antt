@@ -1,5 +1,5 @@
 -- Algorithm: the checks 15 to 19, node by node, row by row, successor by successor, up to the first that fails. Assumes nothing.
-use Prim.Native.Nat.{ℕ, zero, suc, _+_, _-_, _*_, _≤_, _<_, _^_}
+use Prim.Native.Nat.{ℕ, zero, suc, _+_, _-_, _*_, _≤_, _<_}
 use mathlib.Core.Path.{_≡_}
 use mathlib.Core.Bool.{Bool, false, cond, _||_}
 use mathlib.Core.List.{List}
@@ -81,12 +81,12 @@ module _ (words : List ℕ) (r : ModelRead) (es : List Square) (t : TableRead) w
   RowsInRange zero a at = Unit {0}
   RowsInRange (suc n) a at =
       let size : ℕ = rowSize (isTable blocked (getD words at 0)) (edgesAt (r .index) a) in
-      Tightens 3 (getD es a universe) × (at < length words) × (at + size ≤ length words) × RowsInRange n (suc a) (at + size)
+      Tightens 1 (getD es a universe) × (at < length words) × (at + size ≤ length words) × RowsInRange n (suc a) (at + size)
 
   -- the node n, where its location is no target
   pub record NodeInRange (n : ℕ) (N : NodeEntry) : Type 0 where
-    pub zone : Tightens 3 (getD (t .zones) n universe)
-    pub invariant : Tightens 3 (getD (r .zones) (N .location) universe)
+    pub zone : Tightens 2 (getD (t .zones) n universe)
+    pub invariant : Tightens 2 (getD (r .zones) (N .location) universe)
     pub place : N .place < length words
     pub actions : getD (r .index .actions) (N .location + 1) 0 ≤ 32
     pub rows :

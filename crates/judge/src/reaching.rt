@@ -32,7 +32,7 @@ pub(crate) fn enabled_zones(index: Index, zones: [Zone; ZONES]) -> [Zone; 32]
 // What waiting attains from the states in a zone, within the invariant. Invariants may be lower bounds, and a zone need not lie in its
 // invariant, so the invariant is met before the delay and after it.
 pub(crate) fn waited(zone: Zone, invariant: Zone) -> Zone
-    requires { ⌜ Tightens 3 zone × Tightens 3 invariant ⌝ }
+    requires { ⌜ Tightens 1 zone × Tightens 1 invariant ⌝ }
     ensures { λ r. ⌜ r ≡ waitedSquare zone invariant ⌝ }
 {
     zone.meet(invariant).tighten().delay().meet(invariant)
@@ -40,7 +40,7 @@ pub(crate) fn waited(zone: Zone, invariant: Zone) -> Zone
 
 // Of what waiting attains, what an action attains before its resets.
 pub(crate) fn reach_of(waited: Zone, enabled: Zone) -> Zone
-    requires { ⌜ Tightens 2 waited × Tightens 3 enabled ⌝ }
+    requires { ⌜ Tightens 1 waited × Tightens 1 enabled ⌝ }
     ensures { λ r. ⌜ r ≡ reachSquare waited enabled ⌝ }
 {
     waited.meet(enabled).tighten()

@@ -13,9 +13,8 @@ use Rattle.zone.specs.Squares.{universe, Tightens}
 use Rattle.zone.specs.Reading.{cellOf, withWord}
 use Rattle.zone.specs.declared.zones.Zone.{Zone as Square}
 use Rattle.zone.proofs.Bools.{both, and}
-use Rattle.zone.proofs.KeyLaws.{size-cellOf}
 use Rattle.zone.proofs.WordLaws.{good-first, good-second, good-number}
-use Rattle.zone.proofs.Sizes.{small-withBound, tightens-universe, tightens-withWord}
+use Rattle.zone.proofs.Sizes.{tightens-universe, tightens-withBound, tightens-withWord}
 use Rattle.zone.proofs.Regions.{Stands, inBoth, stands-same, stands-universe, stands-withBound}
 use Rattle.model.specs.Kinds.{bound, is}
 use Rattle.model.specs.Scan.{nothing, faultAt, seenWith, WithinLimits}
@@ -70,7 +69,7 @@ stands-bounds z g = stands-same (λ k v r. r .0) (λ k v r. (r, tt)) (stands-on 
 tightens-on : {y : Square} (z : Zone) → GoodZone z → Tightens 3 y → Tightens 3 (withBounds z y)
 unfolding withBounds
 tightens-on [] empty s = s
-tightens-on {y} (b ∷ z) (more g gs) s = tightens-on z gs (small-withBound y s (b .i) (b .j) (cellOf b) (size-cellOf b (g .small)))
+tightens-on {y} (b ∷ z) (more g gs) s = tightens-on z gs (tightens-withBound b y (g .small) s)
 
 pub tightens-bounds : (z : Zone) → GoodZone z → Tightens 3 (withBounds z universe)
 tightens-bounds z g = tightens-on z g tightens-universe

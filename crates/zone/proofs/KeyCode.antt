@@ -1,140 +1,143 @@
--- What the machine's arithmetic on two keys comes to: the pick in 64 bits and the sum in 32. Assumes nothing.
-use Prim.Native.Nat.{ℕ, zero, suc, _+_, _-_, _*_, _%_, _^_, _<_, max}
+-- What the machine's arithmetic on two keys comes to: the test, the pick and the sum. Assumes nothing.
+use Prim.Native.Nat.{ℕ, suc, _+_, _-_, _*_, _%_, _^_, _<_, max}
 use mathlib.Core.Path.{_≡_, refl, ap, ap₂, _∙_}
 use mathlib.Core.Bool.{Bool, true, false, cond}
 use native.Mathlib.Omega.{arith}
-use lib.Dec.{ltb}
-use lib.Bits.{bitAnd, bitOr, and-mask}
-use lib.IntN.{ℤ, pos, negsuc, one, natAbs, negℤ, _+ℤ_, _-ℤ_, _*ℤ_, +ℤ-comm, +ℤ-idr, -ℤ-+ℤ-cancel, *ℤ-one, *ℤ-zero}
+use lib.Bits.{bitAnd, bitOr, and-mask, or-step}
+use lib.Dec.{T}
+use lib.IntN.{ℤ, pos, negsuc, one, negℤ, _+ℤ_, _-ℤ_, _*ℤ_, +ℤ-idl, +ℤ-idr, *ℤ-one, *ℤ-zero}
 use lib.Signed.{mag, ltZ}
 use mir.Syntax.{w32, w64}
 use mir.Val.{SFits, toZ, ofZ, boolByte}
 use mir.Facts.{toZ-ofZ, toZ-pos}
-use Rattle.zone.specs.Cells.{tighterOf, sum, size}
+use Rattle.zone.specs.Keys.{lowest}
+use Rattle.zone.specs.Cells.{tighterOf, sumKey, sum}
 use Rattle.zone.specs.declared.bounds.Bound.{Bound as Cell}
-use Rattle.zone.proofs.Machine.{mag-add, back32, back64, difference, wide-difference}
-use Rattle.zone.proofs.Integers.{abs-parts, parts-diff}
+use Rattle.zone.proofs.Bools.{by-test}
+use Rattle.zone.proofs.Integers.{up, dn, ltZ→, →ltZ, parts-add, up-neg, dn-neg}
+use Rattle.zone.proofs.Machine.{mag-add, mag-neg, back32, back64}
 
--- ---- the pick: a key plus the gap to the other, times the test whether that is smaller
+-- ---- the pick: each key times the test whether it is picked
 -- a number times a test is the number or 0
-times-test : (t : Bool) (d : ℤ) → d *ℤ toZ w64 (boolByte t) ≡ cond t d (pos 0)
+times : (t : Bool) (z : ℤ) → z *ℤ toZ w32 (boolByte t) ≡ cond t z (pos 0)
 unfolding one
-times-test true d = *ℤ-one d
-times-test false d = *ℤ-zero d
+times true z = *ℤ-one z
+times false z = *ℤ-zero z
 
-chosen : (t : Bool) (a b : ℤ) → a +ℤ cond t (b -ℤ a) (pos 0) ≡ cond t b a
-chosen true a b = +ℤ-comm a (b -ℤ a) ∙ -ℤ-+ℤ-cancel b a
-chosen false a b = +ℤ-idr a
-
-mag-chosen : (t : Bool) (a b : ℤ) {n : ℕ} → mag a < n → mag b < n → mag (cond t a b) < n
-mag-chosen true a b h k = h
-mag-chosen false a b h k = k
+times-not : (t : Bool) (z : ℤ) → z *ℤ (pos 1 -ℤ toZ w32 (boolByte t)) ≡ cond t (pos 0) z
+unfolding one
+times-not true z = *ℤ-zero z
+times-not false z = *ℤ-one z
 
 -- whatever the test t says, the outcome is one of the keys
+pub not-fits : (t : Bool) → SFits w32 (pos 1 -ℤ toZ w32 (boolByte t))
+not-fits true = record { sfits = omega arith }
+not-fits false = record { sfits = omega arith }
+
+module _ (t : Bool) (z : ℤ) (h : mag z < 2 ^ 31) where
+  abbrev taken : ℤ
+  taken = toZ w32 (ofZ w32 z) *ℤ toZ w32 (boolByte t)
+
+  abbrev kept : ℤ
+  kept = toZ w32 (ofZ w32 z) *ℤ toZ w32 (ofZ w32 (pos 1 -ℤ toZ w32 (boolByte t)))
+
+  taken-is : taken ≡ cond t z (pos 0)
+  taken-is = rw (back32 z h) (times t z)
+
+  kept-is : kept ≡ cond t (pos 0) z
+  kept-is = rw (toZ-ofZ (not-fits t), back32 z h) (times-not t z)
+
+  pub taken-fits : SFits w32 taken
+  taken-fits = rw taken-is (by-test (SFits w32) t z (pos 0) (λ _. record { sfits = h }) (λ _. record { sfits = omega arith }))
+
+  pub kept-fits : SFits w32 kept
+  kept-fits = rw kept-is (by-test (SFits w32) t (pos 0) z (λ _. record { sfits = omega arith }) (λ _. record { sfits = h }))
+
 module _ (t : Bool) (a b : ℤ) (h : mag a < 2 ^ 31) (k : mag b < 2 ^ 31) where
-  -- the difference as the machine has it, times the test
-  abbrev part : ℤ
-  part =
-      toZ w64
-      (ofZ w64 (toZ w64 (ofZ w64 (toZ w32 (ofZ w32 b))) +ℤ toZ w64 (ofZ w64 (pos 0 -ℤ toZ w64 (ofZ w64 (toZ w32 (ofZ w32 a)))))))
-      *ℤ toZ w64 (boolByte t)
+  abbrev pick : ℤ
+  pick = toZ w32 (ofZ w32 (kept t a h)) +ℤ toZ w32 (ofZ w32 (taken t b k))
 
-  part-is : part ≡ cond t (b -ℤ a) (pos 0)
-  part-is = rw (wide-difference b a k h) (times-test t (b -ℤ a))
+  pick-is : pick ≡ cond t b a
+  pick-is = rw (toZ-ofZ (kept-fits t a h), toZ-ofZ (taken-fits t b k), kept-is t a h, taken-is t b k) (by t)
+    where
+      by : (t : Bool) → cond t (pos 0) a +ℤ cond t b (pos 0) ≡ cond t b a
+      by true = +ℤ-idl b
+      by false = +ℤ-idr a
 
-  pub part-fits : SFits w64 part
-  part-fits = rw part-is (record { sfits = mag-chosen t (b -ℤ a) (pos 0) (difference b a k h .sfits) (omega arith) })
-
-  abbrev whole : ℤ
-  whole = toZ w64 (ofZ w64 (toZ w32 (ofZ w32 a))) +ℤ toZ w64 (ofZ w64 part)
-
-  whole-is : whole ≡ cond t b a
-  whole-is = rw (toZ-ofZ part-fits, part-is, back32 a h, back64 a (omega arith)) (chosen t a b)
-
-  pub whole-fits : SFits w64 whole
-  whole-fits = rw whole-is (record { sfits = mag-chosen t b a (omega arith) (omega arith) })
-
-  pub pick-fits : SFits w32 (toZ w64 (ofZ w64 whole))
-  pick-fits = rw (toZ-ofZ whole-fits, whole-is) (record { sfits = mag-chosen t b a k h })
-
-  pick-is : toZ w32 (ofZ w32 (toZ w64 (ofZ w64 whole))) ≡ cond t b a
-  pick-is = toZ-ofZ pick-fits ∙ toZ-ofZ whole-fits ∙ whole-is
+  pub pick-fits : SFits w32 pick
+  pick-fits = rw pick-is (by-test (SFits w32) t b a (λ _. record { sfits = k }) (λ _. record { sfits = h }))
 
 pub is-tighterOf :
     (t : Bool) (a b : Cell) (h : mag (a .key) < 2 ^ 31) (k : mag (b .key) < 2 ^ 31) → t ≡ ltZ (b .key) (a .key) →
-    record { key = toZ w32 (ofZ w32 (toZ w64 (ofZ w64 (whole t (a .key) (b .key) h k)))) } ≡ tighterOf a b
+    record { key = toZ w32 (ofZ w32 (pick t (a .key) (b .key) h k)) } ≡ tighterOf a b
 unfolding tighterOf
-is-tighterOf t a b h k e = ap (λ (z : ℤ). record { key = z }) (pick-is t (a .key) (b .key) h k) ∙ by t ∙ ap (λ (c : Bool). cond c b a) e
+is-tighterOf t a b h k e =
+    ap (λ (z : ℤ). record { key = z }) (toZ-ofZ (pick-fits t (a .key) (b .key) h k) ∙ pick-is t (a .key) (b .key) h k) ∙ by t
+    ∙ ap (λ (c : Bool). cond c b a) e
   where
     by : (t : Bool) → _≡_ {A = Cell} (record { key = cond t (b .key) (a .key) }) (cond t b a)
     by true = refl
     by false = refl
 
--- ---- the sum: two keys, less the larger of their lowest bits
-low-bit : (z : ℤ) → mag z < 2 ^ 31 → bitAnd (ofZ w32 z) 1 ≡ natAbs z % 2
-low-bit (pos n) h = and-mask n 1
-low-bit (negsuc n) h = and-mask (2 ^ 32 - suc n) 1 ∙ (let e : (2 ^ 32 - suc n) % 2 ≡ suc n % 2 = omega arith in e)
-
-or-bits : (x y : ℕ) → x < 2 → y < 2 → bitOr x y ≡ max x y
-or-bits zero zero h g = refl
-or-bits zero (suc zero) h g = refl
-or-bits zero (suc (suc y)) h g = absurd (omega arith)
-or-bits (suc zero) zero h g = refl
-or-bits (suc zero) (suc zero) h g = refl
-or-bits (suc zero) (suc (suc y)) h g = absurd (omega arith)
-or-bits (suc (suc x)) y h g = absurd (omega arith)
-
--- a key of a bound that is small in size is small in itself, also one of an absent bound
-pub size-mag : (a : Cell) → size a < 2 ^ 28 → mag (a .key) < 3 * 2 ^ 28
-unfolding size
-size-mag a h = by (a .key) h
+-- ---- the test: the difference is negative
+pub is-below : (a b g : ℤ) → g ≡ a -ℤ b → mag g < 2 ^ 63 → ltZ (toZ w64 (ofZ w64 g)) (pos 0) ≡ ltZ a b
+is-below a b g e h = rw (back64 g h, e) (by (ltZ (a -ℤ b) (pos 0)) (ltZ a b) there back)
   where
-    by : (z : ℤ) → cond (ltZ z (pos (2 ^ 28))) (natAbs z) (natAbs (z -ℤ pos (2 ^ 29))) < 2 ^ 28 → mag z < 3 * 2 ^ 28
-    by (negsuc n) h = omega arith
-    by (pos n) h = at (ltb n (2 ^ 28)) h
-      where
-        at : (t : Bool) → cond t n (natAbs (pos n -ℤ pos (2 ^ 29))) < 2 ^ 28 → n < 3 * 2 ^ 28
-        at true h = omega arith
-        at false h = omega (arith, parts-diff n (2 ^ 29), abs-parts (pos n -ℤ pos (2 ^ 29)))
+    by : (s t : Bool) → (T s → T t) → (T t → T s) → s ≡ t
+    by true true f g = refl
+    by true false f g = absurd (f tt)
+    by false true f g = absurd (g tt)
+    by false false f g = refl
 
-neg-bit : (n : ℕ) → n < 2 → mag (negℤ (pos n)) < 1
-neg-bit zero h = omega arith
-neg-bit (suc zero) h = omega arith
-neg-bit (suc (suc n)) h = absurd (omega arith)
+    parts : up (a -ℤ b) + dn a + up b ≡ dn (a -ℤ b) + up a + dn b
+    parts = omega (arith, parts-add a (negℤ b), up-neg b, dn-neg b)
 
-module _ (a b : ℤ) (h : mag a < 3 * 2 ^ 28) (k : mag b < 3 * 2 ^ 28) where
-  abbrev larger : ℕ
-  larger = max (natAbs a % 2) (natAbs b % 2)
+    there : T (ltZ (a -ℤ b) (pos 0)) → T (ltZ a b)
+    there t = →ltZ a b (omega (arith, parts, ltZ→ (a -ℤ b) (pos 0) t))
 
-  both : mag (a +ℤ b) < 6 * 2 ^ 28
+    back : T (ltZ a b) → T (ltZ (a -ℤ b) (pos 0))
+    back t = →ltZ (a -ℤ b) (pos 0) (omega (arith, parts, ltZ→ a b t))
+
+-- ---- the sum: two keys, less the larger of their lowest bits
+low-bit : (z : ℤ) → mag z < 2 ^ 31 → ofZ w32 z % 2 ≡ lowest z
+low-bit (pos n) h = refl
+low-bit (negsuc n) h = let e : (2 ^ 32 - suc n) % 2 ≡ suc n % 2 = omega arith in e
+
+or-low : (x y : ℕ) → bitOr x y % 2 ≡ max (x % 2) (y % 2)
+or-low x y = let e = or-step x y in omega arith
+
+pub is-excess :
+    (a b : ℤ) → mag a < 2 ^ 31 → mag b < 2 ^ 31 →
+    toZ w32 (bitAnd (bitOr (ofZ w32 a) (ofZ w32 b)) 1) ≡ pos (max (lowest a) (lowest b))
+is-excess a b h k =
+    ap (toZ w32) (and-mask (bitOr (ofZ w32 a) (ofZ w32 b)) 1 ∙ or-low (ofZ w32 a) (ofZ w32 b) ∙ ap₂ max (low-bit a h) (low-bit b k))
+    ∙ toZ-pos w32 {n = max (lowest a) (lowest b)} (omega arith)
+
+module _ (a b : ℤ) (h : mag a < 5 * 2 ^ 27) (k : mag b < 5 * 2 ^ 27) where
+  both : mag (a +ℤ b) < 10 * 2 ^ 27
   both = let g = mag-add a b h k in omega arith
 
   pub both-fits : SFits w32 (toZ w32 (ofZ w32 a) +ℤ toZ w32 (ofZ w32 b))
   both-fits = rw (back32 a (omega arith), back32 b (omega arith)) (record { sfits = let g = both in omega arith })
 
-  bit-is : toZ w32 (bitOr (bitAnd (ofZ w32 a) 1) (bitAnd (ofZ w32 b) 1)) ≡ pos larger
-  bit-is =
-      ap (toZ w32) (ap₂ bitOr (low-bit a (omega arith)) (low-bit b (omega arith)) ∙ or-bits (natAbs a % 2) (natAbs b % 2) (omega arith) (omega arith))
-      ∙ toZ-pos w32 {n = larger} (omega arith)
+  -- x is what the sum of the keys has too many
+  module _ (x : ℤ) (e : x ≡ pos (max (lowest a) (lowest b))) where
+    abbrev rest : ℤ
+    rest = toZ w32 (ofZ w32 (toZ w32 (ofZ w32 a) +ℤ toZ w32 (ofZ w32 b))) -ℤ toZ w32 (ofZ w32 x)
 
-  abbrev rest : ℤ
-  rest =
-      toZ w32 (ofZ w32 (toZ w32 (ofZ w32 a) +ℤ toZ w32 (ofZ w32 b)))
-      -ℤ toZ w32 (bitOr (bitAnd (ofZ w32 a) 1) (bitAnd (ofZ w32 b) 1))
+    rest-is : rest ≡ sumKey a b
+    rest-is = rw (e, toZ-ofZ both-fits, back32 a (omega arith), back32 b (omega arith), back32 (pos (max (lowest a) (lowest b))) (omega arith)) refl
 
-  rest-is : rest ≡ a +ℤ b -ℤ pos larger
-  rest-is = rw (bit-is, toZ-ofZ both-fits, back32 a (omega arith), back32 b (omega arith)) refl
+    pub rest-fits : SFits w32 rest
+    rest-fits =
+        let m : ℕ = max (lowest a) (lowest b) in
+        rw rest-is (record { sfits = let g = mag-add (a +ℤ b) (negℤ (pos m)) both (mag-neg (pos m) {m = 2} (omega arith)) in omega arith })
 
-  pub rest-fits : SFits w32 rest
-  rest-fits =
-      rw rest-is
-      (record { sfits = let g = mag-add (a +ℤ b) (negℤ (pos larger)) both (neg-bit larger (omega arith)) in omega arith })
-
-  rest-back : toZ w32 (ofZ w32 rest) ≡ a +ℤ b -ℤ pos larger
-  rest-back = toZ-ofZ rest-fits ∙ rest-is
+    rest-back : toZ w32 (ofZ w32 rest) ≡ sumKey a b
+    rest-back = toZ-ofZ rest-fits ∙ rest-is
 
 pub is-sum :
-    (a b : Cell) (h : mag (a .key) < 3 * 2 ^ 28) (k : mag (b .key) < 3 * 2 ^ 28) →
-    record { key = toZ w32 (ofZ w32 (rest (a .key) (b .key) h k)) } ≡ sum a b
+    (a b : Cell) (h : mag (a .key) < 5 * 2 ^ 27) (k : mag (b .key) < 5 * 2 ^ 27) (x : ℤ) (e : x ≡ pos (max (lowest (a .key)) (lowest (b .key)))) →
+    record { key = toZ w32 (ofZ w32 (rest (a .key) (b .key) h k x e)) } ≡ sum a b
 unfolding sum
-is-sum a b h k = ap (λ (z : ℤ). record { key = z }) (rest-back (a .key) (b .key) h k)
+is-sum a b h k x e = ap (λ (z : ℤ). record { key = z }) (rest-back (a .key) (b .key) h k x e)

@@ -10,13 +10,13 @@ use lib.Dec.{T, eqb, T-not, not-T}
 use lib.IntN.{ℤ, pos, negsuc, natAbs, _+ℤ_, _-ℤ_, _*ℤ_}
 use lib.Signed.{leZ, ltZ, mag}
 use Rattle.zone.specs.declared.bounds.Bound.{Bound as Cell}
-use Rattle.zone.specs.Keys.{keyOf, finite?, saidOf, PickOf}
+use Rattle.zone.specs.Keys.{keyOf, finite?, half, lowest, saidOf, PickOf}
 use Rattle.zone.specs.Cells.{unbounded, atMostZero, tighter?, tighterOf, sum, negative?, size}
 use Rattle.zone.specs.Scale.{Valuation, Bound, read, holds?, in?, within}
 use Rattle.zone.specs.Reading.{cellOf}
 use Rattle.zone.proofs.Bools.{true-false, is-true, is-false, both, and}
-use Rattle.zone.proofs.Integers.{lt-or-ge, up, dn, leZ→, →leZ, ltZ→, →ltZ, nltZ→, parts-add, parts-diff, up-mul, dn-mul}
-use Rattle.zone.proofs.Limits.{Limit, none, keyed, half, odd, halved, parts-sum, parts-less, Within, Holds, _⊓_, _⊕_, _⊑_, ⊑-none, bounds}
+use Rattle.zone.proofs.Integers.{lt-or-ge, up, dn, abs-parts, abs-small, leZ→, →leZ, ltZ→, →ltZ, nltZ→, parts-add, parts-less, parts-diff, up-mul, dn-mul}
+use Rattle.zone.proofs.Limits.{Limit, none, keyed, halved, parts-sum, Within, Holds, _⊓_, _⊕_, _⊑_, ⊑-none, bounds}
 
 unfoldable pub limitOf : Cell → Limit
 limitOf a = cond (finite? a) (keyed (a .key)) none
@@ -37,14 +37,6 @@ record Absent (a : Cell) : Type 0 where
   above : up (a .key) ≤ 2 ^ 29 + dn (a .key) + size a
   below : 2 ^ 29 + dn (a .key) ≤ up (a .key) + size a
   small : {n : ℕ} → up (a .key) < 2 ^ 29 + n + dn (a .key) → 2 ^ 29 + dn (a .key) < n + up (a .key) → size a < n
-
-abs-parts : (z : ℤ) → natAbs z ≡ up z + dn z
-abs-parts (pos n) = omega arith
-abs-parts (negsuc n) = omega arith
-
-abs-small : (z : ℤ) {n : ℕ} → up z < n + dn z → dn z < n + up z → natAbs z < n
-abs-small (pos m) h k = omega arith
-abs-small (negsuc m) h k = omega arith
 
 is-finite : (a : Cell) → T (finite? a) → Finite a
 unfolding limitOf size
@@ -202,25 +194,26 @@ size-passed a b c {n} n₁ h k l = by (kind a) (kind b) (near a b)
     by (inr f) (inl g) r = either (above-absent (sum a b) (omega arith) .small (omega arith) (omega arith))
     by (inr f) (inr g) r = rw (first c (sum a b) (omega (arith, below (kind c)))) (omega arith)
 
-pub size-mag : (a : Cell) → size a < 2 ^ 28 → mag (a .key) < 2 ^ 30
+-- a key of a small bound is small, also that of an absent one
+pub size-mag : (a : Cell) → size a < 2 ^ 27 → mag (a .key) < 5 * 2 ^ 27
 size-mag a h = by (kind a)
   where
-    small : (z : ℤ) → up z < 2 ^ 30 + dn z → dn z ≤ 2 ^ 30 + up z → mag z < 2 ^ 30
+    small : (z : ℤ) → up z < 5 * 2 ^ 27 + dn z → dn z ≤ 5 * 2 ^ 27 + up z → mag z < 5 * 2 ^ 27
     small (pos n) h k = omega arith
     small (negsuc n) h k = omega arith
 
-    by : Finite a ⊎ Absent a → mag (a .key) < 2 ^ 30
+    by : Finite a ⊎ Absent a → mag (a .key) < 5 * 2 ^ 27
     by (inl f) = small (a .key) (omega arith) (omega arith)
     by (inr f) = small (a .key) (omega arith) (omega arith)
 
 -- ---- the key of a bound
-abbrev loose : Bool → ℕ
+abbrev pub loose : Bool → ℕ
 loose s = cond s 0 1
 
 -- the key says d and s
 record Key (d : ℤ) (s : Bool) (key : ℤ) : Type 0 where
   halves : half key ≡ d
-  lowest : odd key ≡ loose s
+  bit : lowest key ≡ loose s
 
 -- integers with the same difference of parts are the same
 same-parts : (a b : ℤ) → up a + dn b ≡ up b + dn a → a ≡ b
@@ -229,7 +222,7 @@ same-parts (pos a) (negsuc b) e = absurd (omega arith)
 same-parts (negsuc a) (pos b) e = absurd (omega arith)
 same-parts (negsuc a) (negsuc b) e = ap negsuc (omega arith)
 
-loose-small : (s : Bool) → loose s < 2
+pub loose-small : (s : Bool) → loose s < 2
 loose-small true = omega arith
 loose-small false = omega arith
 
@@ -239,7 +232,7 @@ parts-key d s = omega (arith, parts-add (d +ℤ d) (pos (loose s)), parts-add d 
 key-of : (d : ℤ) (s : Bool) → Key d s (keyOf d s)
 key-of d s = record {
   halves = same-parts (half (keyOf d s)) d (omega (arith, parts-key d s, loose-small s, halved (keyOf d s)));
-  lowest = omega (arith, parts-key d s, loose-small s, halved (keyOf d s));
+  bit = omega (arith, parts-key d s, loose-small s, halved (keyOf d s));
 }
 
 loose-even : (n : ℕ) → n < 2 → n ≡ loose (eqb n 0)
@@ -301,17 +294,17 @@ size-cellOf b h =
 pub said-key : (d : ℤ) (s : Bool) → natAbs d < 2 ^ 26 → (i j : ℕ) →
     saidOf (record { key = keyOf d s }) i j ≡ (record { i = i; j = j; d = d; strict = s } ∷ [])
 unfolding saidOf
-said-key d s h i j = rw (key-finite d s h .test, key-of d s .halves, key-of d s .lowest, even-loose s)
+said-key d s h i j = rw (key-finite d s h .test, key-of d s .halves, key-of d s .bit, even-loose s)
 
-key-said : (z : ℤ) → Key (half z) (eqb (odd z) 0) z
-key-said z = record { halves = refl; lowest = loose-even (odd z) (halved z .small) }
+key-said : (z : ℤ) → Key (half z) (eqb (lowest z) 0) z
+key-said z = record { halves = refl; bit = loose-even (lowest z) (halved z .small) }
 
 pub said-holds : (a : Cell) (i j k : ℕ) (v : Valuation) → within (saidOf a i j) k v ↔ bounds .Holds k (read v i) (read v j) (limitOf a)
 unfolding saidOf within in? holds? limitOf
 said-holds a i j k v = by (finite? a)
   where
     b : Bound
-    b = record { i = i; j = j; d = half (a .key); strict = eqb (odd (a .key)) 0 }
+    b = record { i = i; j = j; d = half (a .key); strict = eqb (lowest (a .key)) 0 }
 
     by : (c : Bool) → T (in? k v (cond c (b ∷ []) [])) ↔ Holds k (read v i) (read v j) (cond c (keyed (a .key)) none)
     by true =

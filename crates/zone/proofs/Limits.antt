@@ -2,13 +2,15 @@
 use mathlib.Core.Path.{_≡_, refl, ap}
 use mathlib.Core.Logic.{_⊎_, inl, inr}
 use mathlib.Core.Bool.{Bool, true, false, not, cond}
-use Prim.Native.Nat.{ℕ, _+_, _*_, _-_, _%_, _≤_, _<_, max}
+use Prim.Native.Nat.{ℕ, _+_, _*_, _-_, _≤_, _<_, max}
 use native.Mathlib.Nat as N
 use native.Mathlib.Omega.{arith}
 use lib.Dec.{T}
-use lib.IntN.{ℤ, pos, negsuc, negℤ, natAbs, _+ℤ_, _-ℤ_}
-use lib.Signed.{ltZ, shrZ}
-use Rattle.zone.proofs.Integers.{lt-or-ge, up, dn, ltZ→, nltZ→, parts-add, up-neg, dn-neg}
+use lib.IntN.{ℤ, pos, negsuc, negℤ, _+ℤ_, _-ℤ_}
+use lib.Signed.{ltZ}
+use Rattle.zone.specs.Keys.{half, lowest}
+use Rattle.zone.specs.Cells.{sumKey}
+use Rattle.zone.proofs.Integers.{lt-or-ge, up, dn, ltZ→, nltZ→, parts-add, parts-less, up-neg, dn-neg}
 use Rattle.zone.proofs.Theory.BoundLaws.{BoundLaws}
 
 -- no bound, or the bound with this key
@@ -17,15 +19,9 @@ pub data Limit : Type 0 where
   keyed : ℤ → Limit
 
 -- ---- a key is twice its half, rounded down, and one more if it is odd
-abbrev pub half : ℤ → ℤ
-half z = shrZ z 2
-
-abbrev pub odd : ℤ → ℕ
-odd z = natAbs z % 2
-
 pub record Halved (z : ℤ) : Type 0 where
-  pub parts : up z + 2 * dn (half z) ≡ 2 * up (half z) + dn z + odd z
-  pub small : odd z < 2
+  pub parts : up z + 2 * dn (half z) ≡ 2 * up (half z) + dn z + lowest z
+  pub small : lowest z < 2
 
 pub halved : (z : ℤ) → Halved z
 halved (pos n) = omega arith
@@ -107,27 +103,21 @@ unfolding _⊓_
 none-⊓ = refl
 
 -- ---- the sum
-abbrev pub sumKey : ℤ → ℤ → ℤ
-sumKey y z = y +ℤ z -ℤ pos (max (odd y) (odd z))
-
 infixl 70 _⊕_
 unfoldable pub _⊕_ : Limit → Limit → Limit
 none ⊕ b = none
 keyed y ⊕ none = none
 keyed y ⊕ keyed z = keyed (sumKey y z)
 
-pub parts-less : (z : ℤ) (m : ℕ) → up (z -ℤ pos m) + dn z + m ≡ dn (z -ℤ pos m) + up z
-parts-less z m = omega (arith, parts-add z (negℤ (pos m)), up-neg (pos m), dn-neg (pos m))
-
-pub parts-sum : (y z : ℤ) → up (sumKey y z) + dn y + dn z + max (odd y) (odd z) ≡ dn (sumKey y z) + up y + up z
-parts-sum y z = omega (arith, parts-add y z, parts-less (y +ℤ z) (max (odd y) (odd z)))
+pub parts-sum : (y z : ℤ) → up (sumKey y z) + dn y + dn z + max (lowest y) (lowest z) ≡ dn (sumKey y z) + up y + up z
+parts-sum y z = omega (arith, parts-add y z, parts-less (y +ℤ z) (max (lowest y) (lowest z)))
 
 -- the half of a sum is the sum of the halves, and it is odd if both keys are
 record Added (y z r : ℤ) : Type 0 where
   parts : up (half r) + dn (half y) + dn (half z) ≡ dn (half r) + up (half y) + up (half z)
-  left : odd r ≤ odd y
-  right : odd r ≤ odd z
-  below : odd y + odd z < odd r + 2
+  left : lowest r ≤ lowest y
+  right : lowest r ≤ lowest z
+  below : lowest y + lowest z < lowest r + 2
 
 added : (y z : ℤ) → Added y z (sumKey y z)
 added y z = omega (arith, parts-sum y z, halved y, halved z, halved (sumKey y z))
@@ -190,7 +180,7 @@ Within k x y d o = x + k * dn d < y + k * up d + o
 
 abbrev pub Meant : ℕ → ℕ → ℕ → Limit → Type 0
 Meant k x y none = Unit
-Meant k x y (keyed z) = Within k x y (half z) (odd z)
+Meant k x y (keyed z) = Within k x y (half z) (lowest z)
 
 pub record Holds (k x y : ℕ) (b : Limit) : Type 0 where
   pub at : Meant k x y b
@@ -226,8 +216,8 @@ holds-⊑ k k₁ x y none (keyed z) h p = absurd (h .at)
 holds-⊑ k k₁ x y (keyed w) (keyed z) h p =
     let m : ℕ = up (half w) + dn (half z) in
     let n : ℕ = up (half z) + dn (half w) in
-    let l : 2 * m + odd w ≤ 2 * n + odd z = omega (arith, halved w, halved z) in
-    omega (arith, simp N.mul-add at (scaled k m n (odd w) (odd z) k₁ (halved w .small) (halved z .small) l))
+    let l : 2 * m + lowest w ≤ 2 * n + lowest z = omega (arith, halved w, halved z) in
+    omega (arith, simp N.mul-add at (scaled k m n (lowest w) (lowest z) k₁ (halved w .small) (halved z .small) l))
 
 pub holds-⊕ : (k x y z : ℕ) (a b : Limit) → Holds k x y a → Holds k y z b → Holds k x z (a ⊕ b)
 unfolding _⊕_
@@ -239,7 +229,7 @@ holds-⊕ k x y z (keyed u) (keyed v) p q =
 pub holds-self : (k : ℕ) → 1 ≤ k → (x : ℕ) (a : Limit) → Holds k x x a → atMostZero ⊑ a
 holds-self k k₁ x none h = ⊑-none atMostZero
 holds-self k k₁ x (keyed z) h =
-    omega (arith, halved z, unscaled k (dn (half z)) (up (half z)) (odd z) k₁ (halved z .small) (omega arith))
+    omega (arith, halved z, unscaled k (dn (half z)) (up (half z)) (lowest z) k₁ (halved z .small) (omega arith))
 
 twice : (k : ℕ) (z : ℤ) → (2 * k * up z ≡ 2 * (k * up z)) × (2 * k * dn z ≡ 2 * (k * dn z))
 twice k z = (N.mul-assoc 2 k (up z), N.mul-assoc 2 k (dn z))
@@ -255,7 +245,7 @@ halve k x y (keyed z) h = omega (arith, twice k (half z), halved z .small)
 -- ---- the least reading, at twice the scale, of a clock that a bound holds against
 abbrev pub low : ℕ → ℕ → Limit → ℕ
 low k x none = 0
-low k x (keyed z) = 2 * x + 2 * k * dn (half z) + 1 - (2 * k * up (half z) + odd z)
+low k x (keyed z) = 2 * x + 2 * k * dn (half z) + 1 - (2 * k * up (half z) + lowest z)
 
 pub low-holds : (k x z : ℕ) (a : Limit) → low k x a ≤ z → Holds (2 * k) (2 * x) z a
 low-holds k x z none h = holds-none (2 * k) (2 * x) z
@@ -280,7 +270,7 @@ parts-negation z = omega (arith, parts-add (pos 1) (negℤ z), up-neg z, dn-neg 
 -- its half is the half's negative, and it is odd if the key is even
 record Negated (z r : ℤ) : Type 0 where
   parts : up (half r) + up (half z) ≡ dn (half r) + dn (half z)
-  other : odd r + odd z ≡ 1
+  other : lowest r + lowest z ≡ 1
 
 negated : (z : ℤ) → Negated z (pos 1 -ℤ z)
 negated z = omega (arith, parts-negation z, halved z, halved (pos 1 -ℤ z))

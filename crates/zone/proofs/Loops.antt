@@ -1,4 +1,4 @@
--- Loops over arrays: one that fills an array from the front, and one that looks for a number that fails a test. Assumes nothing.
+-- Loops over arrays: one that fills an array from the front, and one that asks a test at every number. Assumes nothing.
 use Prim.Native.Nat.{ℕ, zero, suc, _+_, _*_, _/_, _%_, _≤_, _<_}
 use mathlib.Core.Path.{_≡_, refl, sym, ap, ap₂, subst, _∙_}
 use mathlib.Core.Bool.{Bool, true, false, _&&_}
@@ -94,9 +94,6 @@ module _ {A : Type 0} {d : A} {n : ℕ} {goal old : List A} where
 
     pub same-place : {q : ℕ} → p ≡ q → Filled d n goal old q xs
     same-place e = subst (λ k. Filled d n goal old k xs) e t
-
-    pub unchanged : getD old p d ≡ getD goal p d → Filled d n goal old (p + 1) xs
-    unchanged e = kept (p + 1) (omega arith) (λ k l m. let q : k ≡ p = omega arith in rw q e)
 
     pub all-filled : length goal ≡ n → n ≤ p → xs ≡ goal
     all-filled e h = let s = t .size in ext-getD d xs goal (t .size ∙ sym e) (λ k l. t .done k (omega arith))

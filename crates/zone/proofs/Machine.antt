@@ -20,7 +20,7 @@ mag-add (pos a) (negsuc b) h k = mag-cond (ltb a (suc b)) (omega arith) (omega a
 mag-add (negsuc a) (pos b) h k = mag-cond (ltb b (suc a)) (omega arith) (omega arith)
 mag-add (negsuc a) (negsuc b) h k = omega arith
 
-mag-neg : (a : ℤ) {m : ℕ} → mag a < m → mag (negℤ a) < suc m
+pub mag-neg : (a : ℤ) {m : ℕ} → mag a < m → mag (negℤ a) < suc m
 mag-neg (pos zero) h = omega arith
 mag-neg (pos (suc n)) h = omega arith
 mag-neg (negsuc n) h = omega arith
@@ -45,7 +45,7 @@ module _ (a b : ℤ) (h : mag a < 2 ^ 31) (k : mag b < 2 ^ 31) where
   negated : SFits w64 (negℤ b)
   negated = record { sfits = let l = mag-neg b k in omega arith }
 
-  pub difference : SFits w64 (a -ℤ b)
+  difference : SFits w64 (a -ℤ b)
   difference = record { sfits = let l = mag-add a (negℤ b) h (mag-neg b k) in omega arith }
 
   pub wide-neg : SFits w64 (pos 0 -ℤ toZ w64 (ofZ w64 (toZ w32 (ofZ w32 b))))

@@ -7,25 +7,27 @@ use mathlib.Core.Logic.{_⊎_, inl, inr}
 use native.Mathlib.Nat.{one-mul, add-mul, mul-le-mul-right, pow-le-pow-right, two-pow-succ}
 use native.Mathlib.Omega.{arith}
 use lib.Dec.{eqb}
+use lib.IntN.{natAbs}
 use lib.ListN.{length, getD, set, List·getD-eq-default}
 use lib.Pow.{pow-add}
 use lib.Seq.{getD-set-same, getD-set-other, set-out}
-use Rattle.zone.specs.Cells.{unbounded, atMostZero, tighterOf, sum, size, pastEnd}
+use Rattle.zone.specs.Cells.{unbounded, atMostZero, tighterOf, size, pastEnd}
 use Rattle.zone.specs.Squares.{Small, Tightens, cell, listOf, squareOf, universe, withBound, met, passed, passedBelow, tightened}
 use Rattle.zone.specs.Squares.{delayedSquare, source, beforeBelow, beforeReset}
+use Rattle.zone.specs.Scale.{Bound}
 use Rattle.zone.specs.Words.{boundOf, goodBound?}
 use Rattle.zone.specs.Reading.{cellOf, withWord, readFrom, readZone}
 use Rattle.zone.specs.declared.bounds.Bound.{Bound as Cell}
 use Rattle.zone.specs.declared.zones.Zone.{Zone as Square}
 use Rattle.zone.specs.declared.questions.ZoneRead.{ZoneRead}
+use Rattle.zone.proofs.Bools.{by-test}
 use Rattle.zone.proofs.Integers.{lt-or-ge}
 use Rattle.zone.proofs.KeyLaws.{size-tighterOf, size-passed, size-cellOf}
 use Rattle.zone.proofs.WordLaws.{good-number}
 use Rattle.zone.proofs.Loops.{listOf-length, listOf-at}
 
 size-cond : (t : Bool) (a b : Cell) {n : ℕ} → size a < n → size b < n → size (cond t a b) < n
-size-cond true a b h k = h
-size-cond false a b h k = k
+size-cond t a b {n} h k = by-test (λ c. size c < n) t a b (λ _. h) (λ _. k)
 
 size-unbounded : size unbounded ≡ 0
 unfolding size
@@ -62,7 +64,7 @@ small-universe =
     (λ i j. size-cond (eqb i 0 || eqb i j) atMostZero unbounded (rw size-atMostZero (omega arith)) (rw size-unbounded (omega arith)))
 
 module _ {n : ℕ} (z : Square) (s : Small n z) where
-  pub small-withBound : (i j : ℕ) (b : Cell) → size b < n → Small n (withBound i j b z)
+  small-withBound : (i j : ℕ) (b : Cell) → size b < n → Small n (withBound i j b z)
   unfolding withBound
   small-withBound i j b h = record {
     at = λ p. by p (lt-or-ge p (i * 5 + j)) (lt-or-ge (i * 5 + j) p) (lt-or-ge (i * 5 + j) (length (z .cells)));
@@ -136,10 +138,12 @@ pub tightens-universe : Tightens 3 universe
 tightens-universe = small-weaken small-universe (omega arith)
 
 -- ---- a table that is read from bound words
-module _ (C w : ℕ) (good : goodBound? C w ≡ true) where
-  pub tightens-withWord : (z : Square) → Tightens 3 z → Tightens 3 (withWord w z)
-  unfolding withWord
-  tightens-withWord z s = small-withBound z s (boundOf w .i) (boundOf w .j) (cellOf (boundOf w)) (size-cellOf (boundOf w) (good-number C w good))
+pub tightens-withBound : (b : Bound) (z : Square) → natAbs (b .d) < 4096 → Tightens 3 z → Tightens 3 (withBound (b .i) (b .j) (cellOf b) z)
+tightens-withBound b z h s = small-withBound z s (b .i) (b .j) (cellOf b) (size-cellOf b h)
+
+pub tightens-withWord : (C w : ℕ) → goodBound? C w ≡ true → (z : Square) → Tightens 3 z → Tightens 3 (withWord w z)
+unfolding withWord
+tightens-withWord C w good z s = tightens-withBound (boundOf w) z (good-number C w good) s
 
 tightens-readFrom : (C : ℕ) (ws : List ℕ) (p : ℕ) (z : Square) → Tightens 3 z → Tightens 3 (readFrom C ws p z .zone)
 unfolding readFrom

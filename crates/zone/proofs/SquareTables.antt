@@ -31,7 +31,7 @@ use Rattle.zone.specs.Squares.{
 use Rattle.zone.specs.declared.bounds.Bound.{Bound as Cell}
 use Rattle.zone.specs.declared.zones.Zone.{Zone as Square}
 use Rattle.zone.proofs.Bools.{false-true}
-use Rattle.zone.proofs.Limits.{Limit, none, keyed, bounds}
+use Rattle.zone.proofs.Limits.{Limit, none, bounds}
 use Rattle.zone.proofs.KeyLaws.{
   limitOf,
   limit-unbounded,

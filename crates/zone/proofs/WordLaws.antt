@@ -16,11 +16,12 @@ use Rattle.zone.specs.Words.{bits, kind, boundOf, boundFields?, goodBoun
 use Rattle.zone.specs.Keys.{keyOf}
 use Rattle.zone.specs.Reading.{cellOf}
 use Rattle.zone.proofs.Bools.{false-true, left-true, right-true}
-use Rattle.zone.proofs.Integers.{abs-diff}
+use Rattle.zone.proofs.Integers.{abs-small, parts-diff}
+use Rattle.zone.proofs.KeyLaws.{loose-small}
 use Rattle.zone.proofs.Machine.{mag-cond, mag-add}
 
-lowest : (w : ℕ) → w % 8192 ≡ bits 12 0 w
-lowest w = ap (λ (n : ℕ). n % 8192) (sym (div-one w))
+number-bits : (w : ℕ) → w % 8192 ≡ bits 12 0 w
+number-bits w = ap (λ (n : ℕ). n % 8192) (sym (div-one w))
 
 -- the lowest bit of a mask
 pub lowest-bit : (w : ℕ) → eqb (w % 2) 1 ≡ masked? w 1
@@ -31,21 +32,21 @@ pub fields-are :
     (C w i j : ℕ) → i ≡ boundOf w .i → j ≡ boundOf w .j →
     (leb i C && leb j C && not (eqb i j) && not (eqb (w % 8192) 0) && eqb (w / 8192 % 64) 0) ≡ boundFields? C w
 unfolding boundOf boundFields?
-fields-are C w i j e f = rw (e, f, lowest w)
+fields-are C w i j e f = rw (e, f, number-bits w)
 
 module _ (w : ℕ) where
-  pub number-small : mag (boundOf w .d) < 4096
+  number-small : mag (boundOf w .d) < 4096
   unfolding boundOf
   number-small = mag-cond (ltb (bits 12 0 w) 4096) (omega arith) (omega arith)
 
   pub number-fits : SFits w32 (toZ w32 (w % 8192) -ℤ pos 4096)
   unfolding boundOf
   number-fits =
-      let h = number-small in rw (toZ-pos w32 {n = w % 8192} (omega arith), lowest w) (record { sfits = omega arith })
+      let h = number-small in rw (toZ-pos w32 {n = w % 8192} (omega arith), number-bits w) (record { sfits = omega arith })
 
-  pub number-is : toZ w32 (ofZ w32 (toZ w32 (w % 8192) -ℤ pos 4096)) ≡ boundOf w .d
+  number-is : toZ w32 (ofZ w32 (toZ w32 (w % 8192) -ℤ pos 4096)) ≡ boundOf w .d
   unfolding boundOf
-  number-is = rw (toZ-ofZ number-fits, toZ-pos w32 {n = w % 8192} (omega arith), lowest w)
+  number-is = rw (toZ-ofZ number-fits, toZ-pos w32 {n = w % 8192} (omega arith), number-bits w)
 
   abbrev number : ℤ
   number = toZ w32 (ofZ w32 (toZ w32 (w % 8192) -ℤ pos 4096))
@@ -62,11 +63,8 @@ module _ (w : ℕ) where
   key-is false = rw (toZ-ofZ twice-fits, number-is)
 
   key-small : (s : Bool) → mag (keyOf (boundOf w .d) s) < 8194
-  key-small s = mag-add (boundOf w .d +ℤ boundOf w .d) (pos (cond s 0 1)) (mag-add (boundOf w .d) (boundOf w .d) number-small number-small) (by s)
-    where
-      by : (s : Bool) → mag (pos (cond s 0 1)) < 2
-      by true = omega arith
-      by false = omega arith
+  key-small s =
+      mag-add (boundOf w .d +ℤ boundOf w .d) (pos (cond s 0 1)) (mag-add (boundOf w .d) (boundOf w .d) number-small number-small) (loose-small s)
 
   pub key-fits : (s : Bool) → SFits w32 (key s)
   key-fits s = let h = key-small s in rw (key-is s) (record { sfits = omega arith })
@@ -98,8 +96,10 @@ module _ (C w : ℕ) (good : goodBound? C w ≡ true) where
   pub good-number : natAbs (boundOf w .d) < 4096
   unfolding boundOf
   good-number =
-      abs-diff (bits 12 0 w) 4096 (omega arith) (by (bits 12 0 w) number-there)
+      let e = parts-diff (bits 12 0 w) 4096 in
+      let h = positive (bits 12 0 w) number-there in
+      abs-small (pos (bits 12 0 w) -ℤ pos 4096) (omega arith) (omega arith)
     where
-      by : (n : ℕ) → not (eqb n 0) ≡ true → 4096 < n + 4096
-      by zero e = false-true e
-      by (suc n) e = omega arith
+      positive : (n : ℕ) → not (eqb n 0) ≡ true → 1 ≤ n
+      positive zero e = false-true e
+      positive (suc n) e = omega arith

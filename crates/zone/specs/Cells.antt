@@ -1,7 +1,7 @@
 -- Algorithm: the bounds that a square table keeps, each as its key, and what is worked out from them. Assumes nothing.
 use Prim.Native.Nat.{ℕ, _^_, max}
 use mathlib.Core.Bool.{Bool, cond, _&&_}
-use lib.IntN.{pos, natAbs, _+ℤ_, _-ℤ_}
+use lib.IntN.{ℤ, pos, natAbs, _+ℤ_, _-ℤ_}
 use lib.Signed.{ltZ}
 use Rattle.zone.specs.Keys.{finite?, lowest}
 use Rattle.zone.specs.declared.bounds.Bound.{Bound as Cell}
@@ -20,10 +20,13 @@ tighter? a b = finite? a && ltZ (a .key) (b .key)
 unfoldable pub tighterOf : Cell → Cell → Cell
 tighterOf a b = cond (ltZ (b .key) (a .key)) b a
 
--- what a bound of clock i minus clock m and one of clock m minus clock j give for clock i minus clock j. It is strict if either is: of the two
--- lowest bits one is left where both are 1
+-- the key of a sum of two bounds. It is strict if either is: of the two lowest bits one is left where both are 1
+abbrev pub sumKey : ℤ → ℤ → ℤ
+sumKey y z = y +ℤ z -ℤ pos (max (lowest y) (lowest z))
+
+-- what a bound of clock i minus clock m and one of clock m minus clock j give for clock i minus clock j, both below 2^27 in size
 unfoldable pub sum : Cell → Cell → Cell
-sum a b = record { key = a .key +ℤ b .key -ℤ pos (max (lowest a) (lowest b)) }
+sum a b = record { key = sumKey (a .key) (b .key) }
 
 -- tighter than "at most 0", so that it never holds of a clock minus itself
 unfoldable pub negative? : Cell → Bool
@@ -33,6 +36,6 @@ negative? a = tighter? a atMostZero
 unfoldable pub size : Cell → ℕ
 size a = cond (finite? a) (natAbs (a .key)) (natAbs (a .key -ℤ unbounded .key))
 
--- what an array of bounds reads past its end
+-- what an array of bounds reads past its end; no index of the code reaches it
 abbrev pub pastEnd : Cell
 pastEnd = record { key = pos 0 }

@@ -19,14 +19,17 @@ keyOf d strict = d +ℤ d +ℤ pos (cond strict 0 1)
 abbrev pub finite? : Cell → Bool
 finite? a = ltZ (a .key) (pos (2 ^ 28))
 
--- the lowest bit of a key, 1 for an odd one
-abbrev pub lowest : Cell → ℕ
-lowest a = natAbs (a .key) % 2
+-- half of a key, rounded down, and its lowest bit, 1 for an odd key
+abbrev pub half : ℤ → ℤ
+half key = shrZ key 2
 
--- what a key says of clock i minus clock j: nothing, if it is an absent bound's; else the bound whose d is half of it, rounded down, and
--- which is strict if it is even
+abbrev pub lowest : ℤ → ℕ
+lowest key = natAbs key % 2
+
+-- what a key says of clock i minus clock j: nothing, if it is an absent bound's; else the bound whose d is half of it and which is strict
+-- if it is even
 unfoldable pub saidOf : Cell → ℕ → ℕ → Zone
-saidOf a i j = cond (finite? a) (record { i = i; j = j; d = shrZ (a .key) 2; strict = eqb (lowest a) 0 } ∷ []) []
+saidOf a i j = cond (finite? a) (record { i = i; j = j; d = half (a .key); strict = eqb (lowest (a .key)) 0 } ∷ []) []
 
 -- the pick of the tighter of two: it is one of the two and, for every scale and every valuation, holds exactly where both hold
 pub record PickOf (a b pick : Cell) : Type 0 where

@@ -88,7 +88,7 @@ inside? y z = all? 25 (λ p. not (tighter? (getD (z .cells) p pastEnd) (getD (y 
 pub record Small (n : ℕ) (z : Square) : Type 0 where
   pub at : (p : ℕ) → size (getD (z .cells) p pastEnd) < n
 
--- the table can be tightened n times more: tightening makes sizes 32 times as large at most, and below 2^28 no sum takes an absent bound for a
--- finite one, nor a finite one for an absent one
+-- the table can be tightened n times more: each of the five passes doubles sizes at most, and the sum of two bounds below 2^27 in size is absent
+-- exactly where one of them is
 abbrev pub Tightens : ℕ → Square → Type 0
 Tightens n z = Small (2 ^ (28 - 5 * n)) z

@@ -57,27 +57,27 @@ impl Zone {
         let u = Bound::UNBOUNDED;
         Zone {
             cells: [
+                z, // clock 0 minus clock 0, then minus 1 to 4
                 z,
                 z,
                 z,
                 z,
-                z,
-                u,
-                z,
-                u,
-                u,
-                u,
-                u,
-                u,
+                u, // clock 1
                 z,
                 u,
                 u,
                 u,
-                u,
+                u, // clock 2
                 u,
                 z,
                 u,
                 u,
+                u, // clock 3
+                u,
+                u,
+                z,
+                u,
+                u, // clock 4
                 u,
                 u,
                 u,

@@ -1,8 +1,8 @@
 //! Prints the figures of docs/FIGURES.md, as Markdown. Meant for a release build.
 //!
 //! `figures`: how long a call takes with the judge, the reading and the plain judge.
-//! `figures --instructions`: how many instructions it needs and how many conditional branches it meets, where valgrind is
-//! there.
+//! `figures --instructions`: how many instructions it needs, and how many conditional branches are among them, where valgrind
+//! is there.
 //! `figures --once LINE SIDE N`: runs the call of one line N times and prints nothing; for valgrind.
 
 use std::process::ExitCode;
@@ -36,12 +36,12 @@ fn main() -> ExitCode {
 }
 
 fn print_times() {
-    print_head();
+    print_head("");
     for shape in shapes::all() {
         let times = figures::times(&shape, ROUNDS);
         let cells: Vec<String> = times.iter().map(spelled).collect();
         let least: Vec<f64> = times.iter().map(|time| time.least).collect();
-        print_row(&shape, &cells, &least);
+        println!("{}", row(&shape, &cells, &least));
     }
     println!(
         "\nTime of one call: the least of {ROUNDS} rounds and, in brackets, the middle one; the ratios are those of the least. {}.",
@@ -55,8 +55,8 @@ fn print_instructions() -> Result<(), Fault> {
         println!("valgrind is not there: no instructions are counted.");
         return Ok(());
     }
-    let mut counted = Vec::new();
-    for (number, shape) in shapes::all().into_iter().enumerate() {
+    print_head(" branches of the three |");
+    for (number, shape) in shapes::all().iter().enumerate() {
         let input = shape.input();
         if input.words() > LONGEST {
             continue;
@@ -66,28 +66,21 @@ fn print_instructions() -> Result<(), Fault> {
             .map(count)
             .into_iter()
             .collect::<Result<Vec<Counts>, Fault>>()?;
-        counted.push((shape, counts));
+        let all = |count: fn(&Counts) -> u64| counts.iter().map(count).collect::<Vec<u64>>();
+        let instructions = all(|counts| counts.instructions);
+        let branches = all(|counts| counts.branches);
+        let numbers: Vec<f64> = instructions.iter().map(|&count| count as f64).collect();
+        println!(
+            "{} {} |",
+            row(shape, &spelled_out(&instructions), &numbers),
+            spelled_out(&branches).join(", "),
+        );
     }
-    print_counts(&counted, |counts| counts.instructions);
-    println!("\nInstructions of one call, by valgrind's callgrind.\n");
-    print_counts(&counted, |counts| counts.branches);
-    println!("\nConditional branches of one call.\n");
-    print_counts(&counted, |counts| counts.missed);
     println!(
-        "\nThose of them that callgrind's predictor missed. {}.",
+        "\nInstructions of one call, and conditional branches among them, by valgrind's callgrind. {}.",
         figures::processor()
     );
     Ok(())
-}
-
-fn print_counts(counted: &[(Shape, Vec<Counts>)], count: fn(&Counts) -> u64) {
-    print_head();
-    for (shape, counts) in counted {
-        let numbers: Vec<u64> = counts.iter().map(count).collect();
-        let cells: Vec<String> = numbers.iter().map(|&number| grouped(number)).collect();
-        let numbers: Vec<f64> = numbers.iter().map(|&number| number as f64).collect();
-        print_row(shape, &cells, &numbers);
-    }
 }
 
 fn once(line: &str, side: &str, calls: &str) -> Result<(), Fault> {
@@ -105,23 +98,28 @@ fn once(line: &str, side: &str, calls: &str) -> Result<(), Fault> {
     Ok(())
 }
 
-fn print_head() {
+/// The head of a table, and the head of the cell behind its ratios, if there is one.
+fn print_head(last: &str) {
     let [judge, reading, plain] = SIDES;
-    println!("| call | words | {judge} | {reading} | {plain} | {judge} / {reading} | {judge} / {plain} |");
-    println!("|---|---:|---:|---:|---:|---:|---:|");
+    println!("| call | words | {judge} | {reading} | {plain} | {judge} / {reading} | {judge} / {plain} |{last}");
+    println!("|---|{}", "---:|".repeat(6 + last.matches('|').count()));
 }
 
 /// A line with a cell and a number for each side, the judge first; the numbers make the ratios.
-fn print_row(shape: &Shape, cells: &[String], numbers: &[f64]) {
+fn row(shape: &Shape, cells: &[String], numbers: &[f64]) -> String {
     let ratio = |other: usize| format!("{:.2}", numbers[0] / numbers[other]);
-    println!(
+    format!(
         "| {} | {} | {} | {} | {} |",
         shape.name(),
         shape.input().words(),
         cells.join(" | "),
         ratio(1),
         ratio(2),
-    );
+    )
+}
+
+fn spelled_out(numbers: &[u64]) -> Vec<String> {
+    numbers.iter().map(|&number| grouped(number)).collect()
 }
 
 /// Least and middle, in the unit that suits them.

@@ -1,6 +1,5 @@
 -- Proof of `waited`: what two zones that can be tightened meet in can be tightened, and the four calls one after the other are the definition.
 use mathlib.Core.Path.{ap, _∙_}
-use native.Mathlib.Omega.{arith}
 use borrow.Author.Needs.{needs}
 use Rattle.zone.specs.Squares.{met, tightened, delayedSquare}
 use Rattle.judge.specs.Reaching.{waitedSquare}
@@ -11,7 +10,7 @@ use Rattle.judge.proofs.reaching.waited.Tie as tie
 tighten-requires : tie.Need-tighten-requires
 tighten-requires c κs =
     let start = c .before in
-    met-fits 3 3 (start .args .zone) (start .args .invariant) _ (c .meet .ensures) (omega arith) (omega arith) (start .pre .0) (start .pre .1)
+    met-fits (start .args .zone) (start .args .invariant) _ (c .meet .ensures) (start .pre .0) (start .pre .1)
 
 returns : tie.Need-returns
 unfolding waitedSquare

@@ -8,6 +8,7 @@ use borrow.Author.Needs.{needs}
 use types.Run.{miss}
 use lib.ListN.{getD, length-map}
 use Rattle.zone.specs.Squares.{universe}
+use Rattle.zone.proofs.Sizes.{tightens-fewer}
 use Rattle.model.proofs.ScanLaws.{noZone}
 use Rattle.table.specs.Index.{noEntry}
 use Rattle.table.specs.declared.nodes.NodeEntry.{NodeEntry}
@@ -141,7 +142,7 @@ waited-requires : tie.Need-waited-requires Inv-loop2 μ-loop2 Inv-loop μ-loop I
 waited-requires c κs =
     let k = c .before .before .before .before .before .before in
     let f = fits (c .before .before .before) in
-    (rw (zone-at k) (f .zone), rw (invariant-at k) (f .invariant))
+    (rw (zone-at k) (tightens-fewer 1 2 _ (omega arith) (f .zone)), rw (invariant-at k) (tightens-fewer 1 2 _ (omega arith) (f .invariant)))
 
 add-at : tie.Need-add-at Inv-loop2 μ-loop2 Inv-loop μ-loop Inv-nodes μ-nodes
 add-at c =

@@ -1,5 +1,5 @@
 -- Proof of `Zone::inside`: at cell p, `passes` says that no bound of the other zone before it is tighter than this zone's.
-use Prim.Native.Nat.{ℕ, _≤_, _-_}
+use Prim.Native.Nat.{_≤_, _-_}
 use mathlib.Core.Path.{_≡_, refl, ap}
 use mathlib.Core.Bool.{not}
 use native.Mathlib.Omega.{arith}

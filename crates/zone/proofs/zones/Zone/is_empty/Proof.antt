@@ -1,5 +1,5 @@
 -- Proof of `Zone::is_empty`: at clock i, `passes` says that no clock below i has a negative bound on itself minus itself.
-use Prim.Native.Nat.{ℕ, _≤_, _-_}
+use Prim.Native.Nat.{_≤_, _-_}
 use mathlib.Core.Path.{_≡_, refl, ap, sym, _∙_}
 use mathlib.Core.Bool.{not}
 use native.Mathlib.Omega.{arith}

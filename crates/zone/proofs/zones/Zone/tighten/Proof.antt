@@ -11,7 +11,7 @@ use Rattle.zone.specs.Squares.{Small, cell, passed, passedBelow}
 use Rattle.zone.specs.declared.bounds.Bound.{Bound as Cell}
 use Rattle.zone.specs.declared.zones.Zone.{Zone as Square}
 use Rattle.zone.proofs.Loops.{listOf-length, Filled, unfilled, stored, same-place, filled}
-use Rattle.zone.proofs.Sizes.{small-weaken, small-passes}
+use Rattle.zone.proofs.Sizes.{small-passes}
 use Rattle.zone.proofs.SquareTables.{square-at}
 use Rattle.zone.proofs.zones.Zone.tighten.Statement.{statement}
 use Rattle.zone.proofs.zones.Zone.tighten.Tie as tie
@@ -58,8 +58,8 @@ sum-requires : tie.Need-sum-requires Inv-loop3 μ-loop3 Inv-loop2 μ-loop2 Inv-l
 sum-requires c κs =
     let pass = c .before .before .before .before .before .before .before .before in
     let start = pass .before in
-    let small = small-weaken {n = 2 ^ 28} (small-passes (pass .loop .m) (start .args .self) (omega arith) (start .pre)) (omega arith) in
-    let old : Small (2 ^ 28) (pass .loop .out) = subst (Small (2 ^ 28)) (sym (pass .loop .inv .2)) small in
+    let small = small-passes (pass .loop .m) (start .args .self) (omega arith) (start .pre) in
+    let old : Small (2 ^ 27) (pass .loop .out) = subst (Small (2 ^ 27)) (sym (pass .loop .inv .2)) small in
     (old .at _, old .at _)
 
 loop3-again : tie.Need-loop3-again Inv-loop3 μ-loop3 Inv-loop2 μ-loop2 Inv-loop μ-loop
