@@ -11,7 +11,7 @@ use Rattle.zone.specs.Moves.{delayed, ResetOf}
 use Rattle.zone.specs.Squares.{Tightens, universe, met, tightened, delayedSquare, beforeReset, resetSquare, reached, empty?, inside?}
 use Rattle.zone.specs.declared.zones.Zone.{Zone as Square}
 use Rattle.zone.proofs.Bools.{true-false, both, and}
-use Rattle.zone.proofs.Sizes.{small-met, small-before, tightens-fewer}
+use Rattle.zone.proofs.Sizes.{small-met, tightens-before, tightens-fewer}
 use Rattle.zone.proofs.SquareTables.{met-assoc}
 use Rattle.zone.proofs.Regions.{Stands, inBoth, stands-same, stands-met}
 use Rattle.zone.proofs.Attained.{Attained, between, reached-empty-yes, reached-empty-no, reset-inside-yes, reset-inside-no, stands-before}
@@ -92,7 +92,7 @@ module _ {M : Model} {r : ModelRead} (x : Indexed M r) (good : GoodModel M) wher
       Tightens 3 (withLandings (r .zones) (r .index .words) (length es) e z)
   unfolding withLandings withLanding Each
   landings-tighten e [] h f s = s
-  landings-tighten {z} e (E ∷ es) h (more f fs) s = landings-tighten (suc e) es (h .1) fs (small-met z s _ (small-before _ (omega arith) lands _))
+  landings-tighten {z} e (E ∷ es) h (more f fs) s = landings-tighten (suc e) es (h .1) fs (small-met z s _ (tightens-before _ lands _))
     where
       w : ℕ
       w = getD (r .index .words) e noEdge .word

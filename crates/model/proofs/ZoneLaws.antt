@@ -10,7 +10,7 @@ use lib.ListN.{getD, length, set, replicate, length-set, length-replicate}
 use Rattle.zone.specs.Scale.{Bound, Zone, holds?, in?, Region, within}
 use Rattle.zone.specs.Words.{boundOf, goodBound?}
 use Rattle.zone.specs.Squares.{universe, Tightens}
-use Rattle.zone.specs.Reading.{cellOf, withWord}
+use Rattle.zone.specs.Reading.{withWord}
 use Rattle.zone.specs.declared.zones.Zone.{Zone as Square}
 use Rattle.zone.proofs.Bools.{both, and}
 use Rattle.zone.proofs.WordLaws.{good-first, good-second, good-number}

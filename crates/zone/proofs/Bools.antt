@@ -1,7 +1,7 @@
 -- Laws of tests. Assumes nothing.
 use Prim.Native.Nat.{ℕ}
 use mathlib.Core.Path.{_≡_, refl, sym}
-use mathlib.Core.Bool.{Bool, true, false, cond, _&&_}
+use mathlib.Core.Bool.{Bool, true, false, not, cond, _&&_}
 use native.Mathlib.Omega.{arith}
 use lib.Dec.{T}
 
@@ -15,6 +15,10 @@ false-true e = true-false (sym e)
 pub by-test : {A : Type 0} (P : A → Type 0) (c : Bool) (x y : A) → (c ≡ true → P x) → (c ≡ false → P y) → P (cond c x y)
 by-test P true x y f g = f refl
 by-test P false x y f g = g refl
+
+pub not-not : (c : Bool) → not (not c) ≡ c
+not-not true = refl
+not-not false = refl
 
 pub both : (a b : Bool) → T (a && b) → T a × T b
 both true b t = (tt, t)

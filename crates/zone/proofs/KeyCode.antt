@@ -120,7 +120,7 @@ module _ (a b : ℤ) (h : mag a < 5 * 2 ^ 27) (k : mag b < 5 * 2 ^ 27) where
   pub both-fits : SFits w32 (toZ w32 (ofZ w32 a) +ℤ toZ w32 (ofZ w32 b))
   both-fits = rw (back32 a (omega arith), back32 b (omega arith)) (record { sfits = let g = both in omega arith })
 
-  -- x is what the sum of the keys has too many
+  -- x is the excess of the sum
   module _ (x : ℤ) (e : x ≡ pos (max (lowest a) (lowest b))) where
     abbrev rest : ℤ
     rest = toZ w32 (ofZ w32 (toZ w32 (ofZ w32 a) +ℤ toZ w32 (ofZ w32 b))) -ℤ toZ w32 (ofZ w32 x)

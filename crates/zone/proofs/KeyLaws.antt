@@ -110,7 +110,7 @@ first : (a b : Cell) → AtMost a b → tighterOf a b ≡ a
 unfolding tighterOf
 first a b h = rw (not-less b a h)
 
-pub tighterOf-cases : (a b : Cell) (P : Cell → Type 0) → P a → P b → P (tighterOf a b)
+tighterOf-cases : (a b : Cell) (P : Cell → Type 0) → P a → P b → P (tighterOf a b)
 tighterOf-cases a b P p q = by (less-or b a)
   where
     by : Less b a ⊎ AtMost a b → P (tighterOf a b)
@@ -299,7 +299,7 @@ said-key d s h i j = rw (key-finite d s h .test, key-of d s .halves, key-of d s 
 key-said : (z : ℤ) → Key (half z) (eqb (lowest z) 0) z
 key-said z = record { halves = refl; bit = loose-even (lowest z) (halved z .small) }
 
-pub said-holds : (a : Cell) (i j k : ℕ) (v : Valuation) → within (saidOf a i j) k v ↔ bounds .Holds k (read v i) (read v j) (limitOf a)
+said-holds : (a : Cell) (i j k : ℕ) (v : Valuation) → within (saidOf a i j) k v ↔ bounds .Holds k (read v i) (read v j) (limitOf a)
 unfolding saidOf within in? holds? limitOf
 said-holds a i j k v = by (finite? a)
   where

@@ -10,6 +10,7 @@ use lib.IntN.{ℤ, pos, negsuc, negℤ, _+ℤ_, _-ℤ_}
 use lib.Signed.{ltZ}
 use Rattle.zone.specs.Keys.{half, lowest}
 use Rattle.zone.specs.Cells.{sumKey}
+use Rattle.zone.proofs.Bools.{not-not}
 use Rattle.zone.proofs.Integers.{lt-or-ge, up, dn, ltZ→, nltZ→, parts-add, parts-less, up-neg, dn-neg}
 use Rattle.zone.proofs.Theory.BoundLaws.{BoundLaws}
 
@@ -112,7 +113,7 @@ keyed y ⊕ keyed z = keyed (sumKey y z)
 pub parts-sum : (y z : ℤ) → up (sumKey y z) + dn y + dn z + max (lowest y) (lowest z) ≡ dn (sumKey y z) + up y + up z
 parts-sum y z = omega (arith, parts-add y z, parts-less (y +ℤ z) (max (lowest y) (lowest z)))
 
--- the half of a sum is the sum of the halves, and it is odd if both keys are
+-- the half of a sum is the sum of the halves, and the sum is odd exactly where both keys are
 record Added (y z r : ℤ) : Type 0 where
   parts : up (half r) + dn (half y) + dn (half z) ≡ dn (half r) + up (half y) + up (half z)
   left : lowest r ≤ lowest y
@@ -280,17 +281,13 @@ negation-fails k x y a none t p q = t
 negation-fails k x y a (keyed z) t p q =
     omega (arith, negated z, simp N.mul-add at (ap (λ n. k * n) (negated z .parts)))
 
-not-not : (c : Bool) → T (not (not c)) → T c
-not-not true t = t
-not-not false t = t
-
 pub negation-fits : (a b : Limit) → T (not (asTight? a b)) → atMostZero ⊑ a ⊕ negation b
 unfolding _⊕_
 negation-fits a none t = absurd t
 negation-fits none (keyed z) t = ⊑-none atMostZero
 negation-fits (keyed y) (keyed z) t =
     let r : ℤ = pos 1 -ℤ z in
-    omega (arith, ltZ→ z y (not-not (ltZ z y) t), parts-negation z, parts-sum y r, halved y .small, halved r .small)
+    omega (arith, ltZ→ z y (rw (not-not (ltZ z y)) at t), parts-negation z, parts-sum y r, halved y .small, halved r .small)
 
 pub atMostZero-holds : (k x y : ℕ) → x ≤ y → Holds k x y atMostZero
 atMostZero-holds k x y h = omega (arith, N.mul-zero k)

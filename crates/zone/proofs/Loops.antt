@@ -1,7 +1,7 @@
 -- Loops over arrays: one that fills an array from the front, and one that asks a test at every number. Assumes nothing.
 use Prim.Native.Nat.{ℕ, zero, suc, _+_, _*_, _/_, _%_, _≤_, _<_}
 use mathlib.Core.Path.{_≡_, refl, sym, ap, ap₂, subst, _∙_}
-use mathlib.Core.Bool.{Bool, true, false, _&&_}
+use mathlib.Core.Bool.{Bool, true, false, not, _&&_, _||_}
 use mathlib.Core.List.{List, _∷_}
 use mathlib.Core.Logic.{_⊎_, inl, inr}
 use native.Mathlib.Nat.{
@@ -113,6 +113,15 @@ all-pass (suc n) f h = rw (all-pass n f (λ k l. h k (omega arith)), h n (omega 
 pub all-more : (n : ℕ) (f : ℕ → Bool) {a b : Bool} → a ≡ all? n f → b ≡ f n → (a && b) ≡ all? (n + 1) f
 unfolding all?
 all-more n f e g = rw (add-one n, e, g)
+
+-- that it fails at some number, and one number more
+pub some-more : (n : ℕ) (f : ℕ → Bool) {a b : Bool} → a ≡ not (all? n f) → b ≡ not (f n) → (a || b) ≡ not (all? (n + 1) f)
+unfolding all?
+some-more n f e g = rw (add-one n, e, g) (by (all? n f) (f n))
+  where
+    by : (c d : Bool) → (not c || not d) ≡ not (c && d)
+    by true d = refl
+    by false d = refl
 
 -- a test that passes at every number below n passes at each
 pub all-at : (n : ℕ) (f : ℕ → Bool) → all? n f ≡ true → (i : ℕ) → i < n → f i ≡ true

@@ -41,7 +41,7 @@ size-pastEnd : size pastEnd ≡ 0
 unfolding size
 size-pastEnd = refl
 
-pub small-weaken : {m n : ℕ} {z : Square} → Small m z → m ≤ n → Small n z
+small-weaken : {m n : ℕ} {z : Square} → Small m z → m ≤ n → Small n z
 small-weaken s h = record { at = λ p. let g = s .at p in omega arith }
 
 -- a table is as small as the values it is made of
@@ -106,7 +106,7 @@ module _ {n : ℕ} (z : Square) (h : 2 ≤ n) (s : Small n z) (mask : ℕ) where
       small-withBound (beforeBelow mask p z) (small-beforeBelow p)
       (source mask (p / 5)) (source mask (p % 5)) (cell z (p / 5) (p % 5)) (s .at _)
 
-  pub small-before : Small n (beforeReset mask z)
+  small-before : Small n (beforeReset mask z)
   small-before = small-beforeBelow 25
 
 -- each pass doubles at most
@@ -133,6 +133,9 @@ tightens-less n z h s =
     let f : 2 ^ 5 * 2 ^ (28 - 5 * suc n) ≡ 2 ^ (28 - 5 * n) = sym (pow-add 2 5 (28 - 5 * suc n)) ∙ ap (λ k. 2 ^ k) e in
     let g : 2 ^ (28 - 5 * n) ≤ 2 ^ 28 = pow-le-pow-right {n = 2} (omega arith) {i = 28 - 5 * n} {j = 28} (omega arith) in
     subst (λ k. Small k (tightened z)) f (small-passedBelow 5 z (omega arith) s)
+
+pub tightens-before : (z : Square) → Tightens 3 z → (mask : ℕ) → Tightens 3 (beforeReset mask z)
+tightens-before z s mask = small-before z (omega arith) s mask
 
 pub tightens-universe : Tightens 3 universe
 tightens-universe = small-weaken small-universe (omega arith)

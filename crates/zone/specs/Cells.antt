@@ -20,7 +20,7 @@ tighter? a b = finite? a && ltZ (a .key) (b .key)
 unfoldable pub tighterOf : Cell → Cell → Cell
 tighterOf a b = cond (ltZ (b .key) (a .key)) b a
 
--- the key of a sum of two bounds. It is strict if either is: of the two lowest bits one is left where both are 1
+-- the key of the sum of two bounds, which is strict if either is: the sum of two odd keys, less one, is odd, and any other sum is made even
 abbrev pub sumKey : ℤ → ℤ → ℤ
 sumKey y z = y +ℤ z -ℤ pos (max (lowest y) (lowest z))
 
@@ -32,7 +32,7 @@ sum a b = record { key = sumKey (a .key) (b .key) }
 unfoldable pub negative? : Cell → Bool
 negative? a = tighter? a atMostZero
 
--- how far a key lies from 0 or, if it is of an absent bound, from that of `unbounded`; sums move both
+-- how far a key lies from 0 or, if it is an absent bound's, from that of `unbounded`
 unfoldable pub size : Cell → ℕ
 size a = cond (finite? a) (natAbs (a .key)) (natAbs (a .key -ℤ unbounded .key))
 

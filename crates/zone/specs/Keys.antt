@@ -19,7 +19,7 @@ keyOf d strict = d +ℤ d +ℤ pos (cond strict 0 1)
 abbrev pub finite? : Cell → Bool
 finite? a = ltZ (a .key) (pos (2 ^ 28))
 
--- half of a key, rounded down, and its lowest bit, 1 for an odd key
+-- half of a key, rounded down (`shrZ` divides by its second number), and its lowest bit, 1 for an odd key
 abbrev pub half : ℤ → ℤ
 half key = shrZ key 2
 

@@ -33,7 +33,7 @@ impl Bound {
         self.gap(other) < 0
     }
 
-    // An absent bound is never tighter, wherever sums have moved its key.
+    // Whether the key is the smaller one and not that of an absent bound.
     pub(crate) fn tighter(self, other: Bound) -> bool
         ensures { λ r. ⌜ r ≡ tighter? self other ⌝ }
     {
@@ -51,7 +51,7 @@ impl Bound {
         }
     }
 
-    // What the sum of the two keys has too many: 1 where either is odd.
+    // By how much the sum of the two keys is too large: 1 where either is odd.
     pub(crate) fn excess(self, other: Bound) -> i32
         ensures { λ r. ⌜ r ≡ pos (max (lowest (self .key)) (lowest (other .key))) ⌝ }
     {

@@ -164,12 +164,12 @@ impl Zone {
     pub fn is_empty(self) -> bool
         ensures { λ r. ⌜ r ≡ empty? self ⌝ }
     {
-        let mut passes = true;
+        let mut empty = false;
         for i in 0..5 {
             let own = self.cells[i * 6];
-            passes = passes & !own.negative();
+            empty = empty | own.negative();
         }
-        !passes
+        empty
     }
 
     // Of a tightened zone that is not empty: it lies inside the other.

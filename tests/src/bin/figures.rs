@@ -2,7 +2,7 @@
 //!
 //! `figures`: how long a call takes with the judge, the reading and the plain judge.
 //! `figures --instructions`: how many instructions it needs, and how many conditional branches are among them, where valgrind
-//! is there.
+//! is there. The document's table of branches is made of the last cell.
 //! `figures --once LINE SIDE N`: runs the call of one line N times and prints nothing; for valgrind.
 
 use std::process::ExitCode;

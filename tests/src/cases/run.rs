@@ -8,8 +8,8 @@ use super::Case;
 use crate::sides::{Plain, Reading, Side};
 use crate::spell;
 
-/// How many cases there are, and how many of them are whole files. A number below means that one got
-/// lost.
+/// How many cases there are at least, and how many of them are whole files. A number below means that
+/// one got lost.
 const LEAST: [(&str, &[&str], usize); 4] = [
     ("zone cases", &["zone_empty", "zone_inside"], 519),
     ("model cases", &["read_model"], 1627),

@@ -1,4 +1,4 @@
--- Proof of `Bound::sum`: keys of small bounds add without overflow, and taking off what they have too many stays in range.
+-- Proof of `Bound::sum`: keys of small bounds add without overflow, and taking off the excess stays in range.
 use Prim.Native.Nat.{_*_, _^_, _<_}
 use borrow.Author.Needs.{needs}
 use lib.Signed.{mag}

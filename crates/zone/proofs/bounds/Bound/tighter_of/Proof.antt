@@ -1,4 +1,4 @@
--- Proof of `Bound::tighter_of`: each key times the test whether it is picked, together, is the smaller key; it means the pick.
+-- Proof of `Bound::tighter_of`: each key times the test whether it is picked, added up, is the smaller key; that bound is the pick (`is-pick`).
 use mathlib.Core.Path.{sym, subst}
 use borrow.Author.Needs.{needs}
 use Rattle.zone.specs.Keys.{PickOf}

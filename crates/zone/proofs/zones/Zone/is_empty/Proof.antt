@@ -1,4 +1,4 @@
--- Proof of `Zone::is_empty`: at clock i, `passes` says that no clock below i has a negative bound on itself minus itself.
+-- Proof of `Zone::is_empty`: at clock i, `empty` says that some clock below i has a negative bound on itself minus itself.
 use Prim.Native.Nat.{_≤_, _-_}
 use mathlib.Core.Path.{_≡_, refl, ap, sym, _∙_}
 use mathlib.Core.Bool.{not}
@@ -6,15 +6,16 @@ use native.Mathlib.Omega.{arith}
 use borrow.Author.Needs.{needs}
 use Rattle.zone.specs.Cells.{negative?}
 use Rattle.zone.specs.Squares.{cell, all?, empty?}
-use Rattle.zone.proofs.Loops.{all-more, on-diagonal}
+use Rattle.zone.proofs.Bools.{not-not}
+use Rattle.zone.proofs.Loops.{some-more, on-diagonal}
 use Rattle.zone.proofs.zones.Zone.is_empty.Statement.{statement}
 use Rattle.zone.proofs.zones.Zone.is_empty.Tie as tie
 
 abbrev Inv-loop : tie.InvT-loop
-Inv-loop self passes₀ i₀ passes i = (i ≤ 5) × (passes ≡ all? i (λ k. not (negative? (cell self k k))))
+Inv-loop self empty₀ i₀ empty i = (i ≤ 5) × (empty ≡ not (all? i (λ k. not (negative? (cell self k k)))))
 
 abbrev μ-loop : tie.MeasureT-loop
-μ-loop self passes₀ i₀ passes i = 5 - i
+μ-loop self empty₀ i₀ empty i = 5 - i
 
 loop-holds : tie.Need-loop-holds Inv-loop μ-loop
 unfolding all?
@@ -23,12 +24,14 @@ loop-holds c = (omega arith, refl)
 loop-again : tie.Need-loop-again Inv-loop μ-loop
 loop-again c =
     let turn = c .before .before .before .loop in
-    let zone = c .before .before .before .before .args .t1 in
-    (omega arith, all-more (turn .i) _ (turn .inv .1) (ap not (c .negative .ensures ∙ ap negative? (sym (on-diagonal zone (turn .i))))))
+    let zone = c .before .before .before .before .args .t1 in (
+      omega arith,
+      some-more (turn .i) _ (turn .inv .1) (c .negative .ensures ∙ ap negative? (sym (on-diagonal zone (turn .i))) ∙ sym (not-not _)),
+    )
 
 returns : tie.Need-returns Inv-loop μ-loop
 unfolding empty?
-returns c = let e : c .before .loop .i ≡ 5 = omega arith in ap not (rw e at (c .before .loop .inv .1))
+returns c = let e : c .before .loop .i ≡ 5 = omega arith in rw e at (c .before .loop .inv .1)
 
 pub is-empty-spec : {M : Type 1} → statement M
 is-empty-spec =
