@@ -14,6 +14,7 @@ pub mod Regions
 pub mod Attained
 pub mod CheckLaws
 pub mod ReadLaws
+pub mod StoreLaws
 pub mod Deciding
 pub mod Decided
 pub mod OneAnswer

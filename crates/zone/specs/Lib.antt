@@ -9,3 +9,4 @@ pub mod Keys
 pub mod Cells
 pub mod Squares
 pub mod Reading
+pub mod Stores
