@@ -17,7 +17,7 @@ use Rattle.table.specs.Fields.{numberOf}
 use Rattle.table.specs.Table.{Successor, Row, blockedRow, successorRow, Node, noNode, Table, nodeAt, successorsOf, rowsOf, rowActions}
 use Rattle.table.specs.Scan.{rowSize}
 use Rattle.table.proofs.Shape.{RowStands, RowsStand, NodeShaped, Shaped}
-use Rattle.acceptance.specs.Acceptance.{Pairwise, rowSum, SuccessorFits, RowFits, NodeFits, Accepted}
+use Rattle.acceptance.specs.Acceptance.{Pairwise, SumFits, SuccessorFits, RowFits, NodeFits, Accepted}
 use Rattle.acceptance.specs.Judging.{successorChecks, rowChecks, rowsChecks, nodeChecks, nodesChecks, startChecks, tableChecks}
 
 -- ---- the rows of words that pass: one for each action, with a successor for each edge, which names one of so many nodes
@@ -79,7 +79,7 @@ module _ (M : Model) (W : Table) where
   row-fits N A (blockedRow p) t h = h .0
   row-fits N A (successorRow p ss) t h = record {
     successors = successors-fit N A (A .edges) ss t (all-left (successorChecks M W N A (A .edges) ss) _ h);
-    sum = all-right (successorChecks M W N A (A .edges) ss) (check 19 p (rowSum W (A .edges) ss ≤ M .denominator * N .value) ∷ []) h .0;
+    sum = all-right (successorChecks M W N A (A .edges) ss) (check 19 p (SumFits M W N A ss) ∷ []) h .0;
   }
 
   row-holds : (N : Node) (A : Action) (r : Row) → RowFits M W N A r → AllHold (rowChecks M W N A r)

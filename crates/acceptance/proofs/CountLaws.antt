@@ -20,7 +20,7 @@ use Rattle.model.proofs.ZoneLaws.{All, more}
 use Rattle.model.proofs.WellFormed.{weigh, WellFormed}
 use Rattle.table.specs.Table.{Table}
 use Rattle.acceptance.specs.Choices.{later, landing, invariant?, throughout?, land?, allowed?}
-use Rattle.acceptance.specs.Schedulers.{stop, choose, Scheduler, edgesCount, choiceCount, moveCount, atTarget?, weightedCount}
+use Rattle.acceptance.specs.Schedulers.{stop, choose, Scheduler, perStep, edgesCount, choiceCount, moveCount, missed?, weightedCount}
 use Rattle.acceptance.specs.Acceptance.{Accepted, certified}
 use Rattle.acceptance.proofs.SchedulerLaws.{by-step, some-one, none-some}
 
@@ -40,8 +40,8 @@ edges-most rest u most h (e ∷ es) =
 
 pub count-most : (M : Model) → WellFormed M → (k : ℕ) (σ : Scheduler) (n : ℕ) (before : List State) (s : State) →
     weightedCount M k σ n before s ≤ M .denominator ^ n
-unfolding weightedCount
-count-most M formed k σ zero before s = by-test (λ (c : ℕ). c ≤ M .denominator ^ zero) (atTarget? M s) _ _ (λ y. le-refl _) (λ y. zero-le)
+unfolding perStep weightedCount
+count-most M formed k σ zero before s = by-test (λ (c : ℕ). c ≤ M .denominator ^ zero) (missed? M k s) _ _ (λ y. le-refl _) (λ y. zero-le)
 count-most M formed k σ (suc n) before s =
     by-step M k σ n before s (λ c. c ≤ M .denominator ^ suc n) (λ y. le-refl _) zero-le
     (λ y history t a A e z. chosen (weightedCount M k σ n history) (count-most M formed k σ n history) (later s t) A
@@ -59,14 +59,14 @@ certified-most M W ok = ok .nodes (W .start) (ok .start .exists) .value
 
 -- ---- no steps: a target counts 1, another state 0
 
-pub count-zero-target : (M : Model) (k : ℕ) (σ : Scheduler) (before : List State) (s : State) → atTarget? M s ≡ true →
-    weightedCount M k σ 0 before s ≡ 1
-unfolding weightedCount
-count-zero-target M k σ before s e = rw e (pow-zero (M .denominator))
+pub count-zero-target : (M : Model) (k : ℕ) (σ : Scheduler) (before : List State) (s : State) →
+    locationAt M (s .location) .target ≡ true → weightedCount M k σ 0 before s ≡ 1
+unfolding missed? weightedCount
+count-zero-target M k σ before s e = rw e (pow-zero (perStep M))
 
-pub count-zero-elsewhere : (M : Model) (k : ℕ) (σ : Scheduler) (before : List State) (s : State) → atTarget? M s ≡ false →
-    weightedCount M k σ 0 before s ≡ 0
-unfolding weightedCount
+pub count-zero-elsewhere : (M : Model) (k : ℕ) (σ : Scheduler) (before : List State) (s : State) →
+    locationAt M (s .location) .target ≡ false → weightedCount M k σ 0 before s ≡ 0
+unfolding missed? weightedCount
 count-zero-elsewhere M k σ before s e = rw e
 
 -- ---- document 01's timeline at scale 3: from the start state, a scheduler that waits two units attains 1 of 10 in a step and 10 of 100 in two;
@@ -99,13 +99,13 @@ pub attained :
     (attains timeline 10 1 ≡ 0) × (attains otherTimeline 6 1 ≡ 9)
 unfolding
     among kindOf boundOf partsWith partsOf modelOf locationAt read holds? in? delayed masked? reset
-    later landing invariant? throughout? land? allowed? edgesCount choiceCount moveCount atTarget? weightedCount
+    later landing invariant? throughout? land? allowed? perStep edgesCount choiceCount moveCount missed? weightedCount
 attained = (refl, refl, refl, refl, refl, refl)
 
 -- ---- what a scheduler sees: every state so far, in their order, the present one last
 
 -- for every list: the scheduler is shown the list with the present state at its end, and so it is where the count goes on
-pub count-step : (M : Model) (k : ℕ) (σ : Scheduler) (n : ℕ) (before : List State) (s : State) → atTarget? M s ≡ false →
+pub count-step : (M : Model) (k : ℕ) (σ : Scheduler) (n : ℕ) (before : List State) (s : State) → missed? M k s ≡ false →
     weightedCount M k σ (suc n) before s ≡ moveCount M k s (weightedCount M k σ n (before ++ (s ∷ []))) (σ (before ++ (s ∷ [])))
 unfolding weightedCount
 count-step M k σ n before s e = rw e
@@ -172,5 +172,5 @@ Order = (seen (begins? passed) ≡ 242) × (seen (λ h. begins? passed (reverse 
 pub sees : Lengths × Earlier × Order
 unfolding
     among kindOf boundOf partsWith partsOf modelOf locationAt read holds? in? delayed masked? reset
-    later landing invariant? throughout? land? allowed? edgesCount choiceCount moveCount atTarget? weightedCount begins?
+    later landing invariant? throughout? land? allowed? perStep edgesCount choiceCount moveCount missed? weightedCount begins?
 sees = ((refl, refl, refl, refl, refl, refl), (refl, refl, refl), (refl, refl))

@@ -16,8 +16,8 @@ use Rattle.model.specs.Model.{Edge, Action, Model}
 use Rattle.model.specs.States.{State, locationAt, IsStart}
 use Rattle.table.specs.Table.{Successor, Row, blockedRow, successorRow, Table, nodeAt, rowActions}
 use Rattle.acceptance.specs.Choices.{later, landing, invariant?, throughout?, land?, allowed?}
-use Rattle.acceptance.specs.Schedulers.{Scheduler, edgesCount, atTarget?, weightedCount, BoundsEvery}
-use Rattle.acceptance.specs.Acceptance.{Reach, Pairwise, rowSum, SuccessorFits, RowFits, startValuations, Accepted, certified}
+use Rattle.acceptance.specs.Schedulers.{Scheduler, perStep, edgesCount, missed?, weightedCount, BoundsEvery}
+use Rattle.acceptance.specs.Acceptance.{Reach, Pairwise, worth, rowSum, SuccessorFits, RowFits, startValuations, Accepted, certified}
 use Rattle.acceptance.proofs.SchedulerLaws.{by-step, some-one, none-some}
 
 -- the node numbered n holds the state s
@@ -39,7 +39,7 @@ pair-at P (x′ ∷ xs) (y ∷ ys) (suc i) x ps e = pair-at P xs ys i x (ps .1) 
 -- a bound for each successor is one for the row
 sums :
     (W : Table) (rest : State → ℕ) (u : State) (whole power : ℕ) (P : Edge → Successor → Type 0) →
-    ((e : Edge) (s : Successor) → P e s → rest (landing e u) * whole ≤ nodeAt W (s .node) .value * power) →
+    ((e : Edge) (s : Successor) → P e s → rest (landing e u) * whole ≤ worth W s * power) →
     (es : List Edge) (ss : List Successor) → Pairwise P es ss → edgesCount rest u es * whole ≤ rowSum W es ss * power
 unfolding edgesCount rowSum
 sums W rest u whole power P f [] [] ps = rw (zero-mul whole) zero-le
@@ -69,19 +69,19 @@ module _ (M : Model) (W : Table) (ok : Accepted M W) (k : ℕ) (positive : 1 ≤
   abbrev Bounded : ℕ → Type 0
   Bounded n =
       (b : ℕ) (before : List State) (s : State) → Holds W k b s →
-      weightedCount M k σ n before s * W .whole ≤ nodeAt W b .value * M .denominator ^ n
+      weightedCount M k σ n before s * W .whole ≤ nodeAt W b .value * perStep M ^ n
 
   -- a target node has the value V
-  at-target : (n b : ℕ) (s : State) → Holds W k b s → atTarget? M s ≡ true → M .denominator ^ n * W .whole ≤ nodeAt W b .value * M .denominator ^ n
-  unfolding atTarget?
+  at-target : (n b : ℕ) (s : State) → Holds W k b s → missed? M k s ≡ true → perStep M ^ n * W .whole ≤ nodeAt W b .value * perStep M ^ n
+  unfolding missed?
   at-target n b s H y =
       let sure : nodeAt W b .value ≡ W .whole = ok .nodes b (H .exists) .target (rw (← H .location, y) tt) in
-      rw (sure, mul-comm (M .denominator ^ n) (W .whole)) (le-refl _)
+      rw (sure, mul-comm (perStep M ^ n) (W .whole)) (le-refl _)
 
   -- elsewhere each action has a row
-  row-for : (b : ℕ) (s : State) → Holds W k b s → atTarget? M s ≡ false → (a : ℕ) (A : Action) →
+  row-for : (b : ℕ) (s : State) → Holds W k b s → missed? M k s ≡ false → (a : ℕ) (A : Action) →
       getElem? (locationAt M (s .location) .actions) a ≡ some A → (r : Row) × RowFits M W (nodeAt W b) A r
-  unfolding atTarget? rowActions
+  unfolding missed? rowActions
   row-for b s H n a A e =
       let elsewhere : locationAt M (nodeAt W b .location) .target ≡ false = rw (← H .location) n in
       pair-at (RowFits M W (nodeAt W b)) (locationAt M (nodeAt W b .location) .actions) (nodeAt W b .rows) a A
@@ -103,33 +103,33 @@ module _ (M : Model) (W : Table) (ok : Accepted M W) (k : ℕ) (positive : 1 ≤
   -- where every weighted count for n steps is bounded, so is what a choice comes to
   onward : (n : ℕ) → Bounded n → (b : ℕ) (history : List State) (A : Action) (u : State) → Reach M (nodeAt W b) A k (u .valuation) → (r : Row) →
       RowFits M W (nodeAt W b) A r →
-      edgesCount (weightedCount M k σ n history) u (A .edges) * W .whole ≤ nodeAt W b .value * M .denominator ^ suc n
-  unfolding landing
+      edgesCount (weightedCount M k σ n history) u (A .edges) * W .whole ≤ nodeAt W b .value * perStep M ^ suc n
+  unfolding perStep landing worth
   onward n all b history A u R (blockedRow p) f = absurd (f .at k positive (u .valuation) R)
   onward n all b history A u R (successorRow p ss) f =
       le-trans
-      (sums W (weightedCount M k σ n history) u (W .whole) (M .denominator ^ n) (SuccessorFits M W (nodeAt W b) A) lands (A .edges) ss
+      (sums W (weightedCount M k σ n history) u (W .whole) (perStep M ^ n) (SuccessorFits M W (nodeAt W b) A) lands (A .edges) ss
       (f .successors))
-      (le-trans (mul-le-mul-right (M .denominator ^ n) (f .sum)) (le-of-eq total))
+      (le-trans (mul-le-mul-right (perStep M ^ n) (f .sum)) (le-of-eq total))
     where
       lands : (e : Edge) (s : Successor) → SuccessorFits M W (nodeAt W b) A e s →
-          weightedCount M k σ n history (landing e u) * W .whole ≤ nodeAt W (s .node) .value * M .denominator ^ n
+          weightedCount M k σ n history (landing e u) * W .whole ≤ worth W s * perStep M ^ n
       lands e s x = all (s .node) history (landing e u) (record {
         exists = x .exists;
         location = sym (x .location);
         zone = x .inside .at k positive (reset (e .mask) (u .valuation)) (record { before = u .valuation; was = R; lands = refl });
       })
 
-      total : M .denominator * nodeAt W b .value * M .denominator ^ n ≡ nodeAt W b .value * M .denominator ^ suc n
-      total = rw (pow-succ', mul-comm (M .denominator) (nodeAt W b .value)) (mul-assoc (nodeAt W b .value) (M .denominator) (M .denominator ^ n))
+      total : M .denominator * nodeAt W b .value * perStep M ^ n ≡ nodeAt W b .value * perStep M ^ suc n
+      total = rw (pow-succ', mul-comm (M .denominator) (nodeAt W b .value)) (mul-assoc (nodeAt W b .value) (M .denominator) (perStep M ^ n))
 
   bounded : (n : ℕ) → Bounded n
   unfolding weightedCount
   bounded zero b before s H =
-      by-test (λ (c : ℕ). c * W .whole ≤ nodeAt W b .value * M .denominator ^ zero) (atTarget? M s) _ _ (at-target zero b s H)
+      by-test (λ (c : ℕ). c * W .whole ≤ nodeAt W b .value * perStep M ^ zero) (missed? M k s) _ _ (at-target zero b s H)
       (λ y. rw zero-mul zero-le)
   bounded (suc n) b before s H =
-      by-step M k σ n before s (λ c. c * W .whole ≤ nodeAt W b .value * M .denominator ^ suc n) (at-target (suc n) b s H) (rw zero-mul zero-le)
+      by-step M k σ n before s (λ c. c * W .whole ≤ nodeAt W b .value * perStep M ^ suc n) (at-target (suc n) b s H) (rw zero-mul zero-le)
       (λ y history t a A e z. let row = row-for b s H y a A e in
       onward n (bounded n) b history A (later s t) (reached b s H A t (rw z tt)) (row .0) (row .1))
 

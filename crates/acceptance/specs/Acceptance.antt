@@ -28,12 +28,6 @@ Pairwise P [] (y ∷ ys) = ⊥
 Pairwise P (x ∷ xs) [] = ⊥
 Pairwise P (x ∷ xs) (y ∷ ys) = P x y × Pairwise P xs ys
 
--- the sum of weight × successor value
-unfoldable pub rowSum : Table → List Edge → List Successor → ℕ
-rowSum W [] ss = 0
-rowSum W (e ∷ es) [] = 0
-rowSum W (e ∷ es) (s ∷ ss) = e .weight * nodeAt W (s .node) .value + rowSum W es ss
-
 -- the successor has the edge's location
 abbrev pub HasLocation : Table → Edge → Successor → Type 0
 HasLocation W e s = nodeAt W (s .node) .location ≡ e .to
@@ -42,7 +36,17 @@ HasLocation W e s = nodeAt W (s .node) .location ≡ e .to
 abbrev pub HoldsReach : Model → Table → Node → Action → Edge → Successor → Type 0
 HoldsReach M W N A e s = Inside (ResetOf (e .mask) (Reach M N A)) (within (nodeAt W (s .node) .zone))
 
--- the sum of weight × successor value is at most D × the node's value
+-- what a successor is worth in the sum: its value
+unfoldable pub worth : Table → Successor → ℕ
+worth W s = nodeAt W (s .node) .value
+
+-- the sum that a row gives: of weight × what the successor is worth
+unfoldable pub rowSum : Table → List Edge → List Successor → ℕ
+rowSum W [] ss = 0
+rowSum W (e ∷ es) [] = 0
+rowSum W (e ∷ es) (s ∷ ss) = e .weight * worth W s + rowSum W es ss
+
+-- it is at most D × the node's value
 abbrev pub SumFits : Model → Table → Node → Action → List Successor → Type 0
 SumFits M W N A ss = rowSum W (A .edges) ss ≤ M .denominator * N .value
 

@@ -22,31 +22,37 @@ unfoldable pub edgesCount : (State → ℕ) → State → List Edge → ℕ
 edgesCount rest s [] = 0
 edgesCount rest s (e ∷ es) = e .weight * rest (landing e s) + edgesCount rest s es
 
--- a choice that is not allowed in the present state, or of an action that its location does not have, counts as stopping
-unfoldable pub choiceCount : Model → ℕ → State → (State → ℕ) → ℕ → Option Action → ℕ
-choiceCount M k s rest t none = 0
-choiceCount M k s rest t (some A) = cond (allowed? M k s A t) (edgesCount rest (later s t) (A .edges)) 0
+-- the base of the powers: D
+unfoldable pub perStep : Model → ℕ
+perStep M = M .denominator
 
--- what a move comes to
-unfoldable pub moveCount : Model → ℕ → State → (State → ℕ) → Move → ℕ
-moveCount M k s rest stop = 0
-moveCount M k s rest (choose c) = choiceCount M k s rest (c .delay) (getElem? (locationAt M (s .location) .actions) (c .action))
+-- the counts of a model, at the scale k
+module _ (M : Model) (k : ℕ) where
+  -- a choice that is not allowed in the present state, or of an action that its location does not have, counts as stopping
+  unfoldable pub choiceCount : State → (State → ℕ) → ℕ → Option Action → ℕ
+  choiceCount s rest t none = 0
+  choiceCount s rest t (some A) = cond (allowed? M k s A t) (edgesCount rest (later s t) (A .edges)) 0
 
--- the present state is at a target
-unfoldable pub atTarget? : Model → State → Bool
-atTarget? M s = locationAt M (s .location) .target
+  -- what a move comes to
+  unfoldable pub moveCount : State → (State → ℕ) → Move → ℕ
+  moveCount s rest stop = 0
+  moveCount s rest (choose c) = choiceCount s rest (c .delay) (getElem? (locationAt M (s .location) .actions) (c .action))
 
--- the weighted count for n steps, for the list of states that has the present state s last, behind those in `before`: D to the power n if s is at
--- a target; else 0 if n is 0 or the scheduler stops; else the sum over the edges of the chosen action, each with the list that has the state
--- landed in added at its end
-unfoldable pub weightedCount : Model → ℕ → Scheduler → ℕ → List State → State → ℕ
-weightedCount M k σ zero before s = cond (atTarget? M s) (M .denominator ^ zero) 0
-weightedCount M k σ (suc n) before s =
-    let history : List State = before ++ (s ∷ []) in
-    cond (atTarget? M s) (M .denominator ^ suc n) (moveCount M k s (weightedCount M k σ n history) (σ history))
+  -- the present state counts as a miss: it is at a target
+  unfoldable pub missed? : State → Bool
+  missed? s = locationAt M (s .location) .target
+
+  -- the weighted count for n steps, for the list of states that has the present state s last, behind those in `before`: the base to the power n if
+  -- s counts as a miss; else 0 if n is 0 or the scheduler stops; else the sum over the edges of the chosen action, each with the list that has the
+  -- state landed in added at its end
+  unfoldable pub weightedCount : Scheduler → ℕ → List State → State → ℕ
+  weightedCount σ zero before s = cond (missed? s) (perStep M ^ zero) 0
+  weightedCount σ (suc n) before s =
+      let history : List State = before ++ (s ∷ []) in
+      cond (missed? s) (perStep M ^ suc n) (moveCount s (weightedCount σ n history) (σ history))
 
 -- Demand 3: b/V is never below what a scheduler attains, at every scale, from every start state, for every number of steps. The list of states
 -- is the start state alone
 pub record BoundsEvery (M : Model) (b whole : ℕ) : Type 0 where
   pub bounds : (k : ℕ) → 1 ≤ k → (s : State) → IsStart M k s → (σ : Scheduler) (n : ℕ) →
-      weightedCount M k σ n [] s * whole ≤ b * M .denominator ^ n
+      weightedCount M k σ n [] s * whole ≤ b * perStep M ^ n

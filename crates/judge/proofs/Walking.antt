@@ -31,7 +31,7 @@ use Rattle.table.specs.Index.{noEntry}
 use Rattle.table.specs.Indexed.{NodeIs, TableIndexed}
 use Rattle.table.specs.declared.read.TableRead.{TableRead}
 use Rattle.table.proofs.Shape.{RowStands, RowsStand, NodeShaped, Shaped}
-use Rattle.acceptance.specs.Acceptance.{Reach, rowSum}
+use Rattle.acceptance.specs.Acceptance.{Reach, worth, rowSum}
 use Rattle.acceptance.specs.Judging.{successorChecks, rowChecks, rowsChecks, nodeChecks, nodesChecks}
 use Rattle.judge.specs.Reaching.{enabledSquares, waitedSquare, reachSquare}
 use Rattle.judge.specs.Walk.{successorFinding, orElse, successorsFrom, rowsFrom, nodesFrom, walked}
@@ -148,7 +148,7 @@ module _ (M : Model) (words : List ℕ) (r : ModelRead) (t : TableRead) (x : Ind
           total ≡ sum + rowSum W Es (successorsOf (length Es) at ws) →
           Finds (successorChecks M W N A Es (successorsOf (length Es) at ws) ++ (check 19 first (total ≤ limit) ∷ cs))
           (successorsFrom words r es t reach (empty? reach) limit first f (length Es) e at sum)
-      unfolding Each successorChecks successorsOf successorsFrom rowSum findingAnswer
+      unfolding Each successorChecks successorsOf successorsFrom worth rowSum findingAnswer
       successors-found [] e at sum ws x d l q =
           let same : total ≡ sum = omega arith in
           rw (← same) (decides (leb total limit) f (finding.SumTooLarge first) (leb-true total limit)
