@@ -29,9 +29,11 @@ bound e = ap (λ (k : ℤ). record { key = k }) e
 
 -- the cell of the zone at a slot
 pub cell-at : (keys : List ℤ) (slot p : ℕ) → p < 25 → getD (zoneAt keys slot .cells) p pastEnd ≡ boundAt keys (slot * 25 + p)
+unfolding zoneAt
 cell-at keys slot p h = listOf-at pastEnd (λ q. boundAt keys (slot * 25 + q)) 25 p h
 
 pub zone-length : (keys : List ℤ) (slot : ℕ) → length (zoneAt keys slot .cells) ≡ 25
+unfolding zoneAt
 zone-length keys slot = listOf-length (λ p. boundAt keys (slot * 25 + p)) 25 0
 
 pub universe-length : length (universe .cells) ≡ 25
@@ -40,6 +42,7 @@ universe-length = listOf-length _ 25 0
 -- the zone at a slot is the one whose bounds stand there
 is-zone : (keys : List ℤ) (slot : ℕ) (z : Square) → length (z .cells) ≡ 25 →
     ((p : ℕ) → p < 25 → boundAt keys (slot * 25 + p) ≡ getD (z .cells) p pastEnd) → zoneAt keys slot ≡ z
+unfolding zoneAt
 is-zone keys slot z e h =
     let s = zone-length keys slot in
     square (ext-getD pastEnd (zoneAt keys slot .cells) (z .cells) (s ∙ sym e) (λ p l. cell-at keys slot p (omega arith) ∙ h p (omega arith)))
@@ -47,6 +50,7 @@ is-zone keys slot z e h =
 -- two stores with the same keys at a slot have the same zone there
 same-zone : (keys others : List ℤ) (slot : ℕ) → ((p : ℕ) → p < 25 → getD keys (slot * 25 + p) (pos 0) ≡ getD others (slot * 25 + p) (pos 0)) →
     zoneAt keys slot ≡ zoneAt others slot
+unfolding zoneAt
 same-zone keys others slot h = square (listOf-same _ _ 25 0 (λ p l. bound (h p (omega arith))))
 
 -- the slots of two numbers do not overlap

@@ -15,7 +15,7 @@ abbrev pub boundAt : List ℤ → ℕ → Cell
 boundAt keys p = record { key = getD keys p (pos 0) }
 
 -- the zone at a slot of a store
-abbrev pub zoneAt : List ℤ → ℕ → Square
+unfoldable pub zoneAt : List ℤ → ℕ → Square
 zoneAt keys slot = record { cells = listOf (λ p. boundAt keys (slot * 25 + p)) 25 0 }
 
 -- the first n bounds of a table put into the store from an index on
