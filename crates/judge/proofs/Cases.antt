@@ -10,7 +10,7 @@ use Rattle.zone.specs.Checks.{Answer, refused, accepted}
 use Rattle.zone.specs.Questions.{AskedEmpty, AskedInside}
 use Rattle.zone.specs.Cells.{tighter?, tighterOf, sum, negative?}
 use Rattle.zone.specs.Squares.{listOf, withBound, passedBelow, source, beforeBelow, all?, empty?, inside?}
-use Rattle.zone.specs.Reading.{withWord}
+use Rattle.zone.specs.Stores.{zoneAt, putBelow, putAt, withWordAt}
 use Rattle.zone.proofs.Cases.{zone-cases}
 use Rattle.model.specs.Kinds.{among, kindOf}
 use Rattle.model.specs.TableKinds.{tableKindOf}
@@ -18,31 +18,22 @@ use Rattle.model.specs.Grammar.{follows, tableFollows, numbered?, mayFollow?, f
 use Rattle.model.specs.Fields.{fields?}
 use Rattle.model.specs.Reading.{limit?, adds?}
 use Rattle.model.specs.Scan.{fieldsAt?, limitAt?, addsAt?, faultAt, lastFault, seenWithKind, seenWith}
-use Rattle.model.specs.Index.{
-  indexWithKind,
-  indexWith,
-  closed,
-  zonesWith,
-  unlessFault,
-  scanFrom,
-  scanned,
-  firstMissing,
-  startSquare,
-  wholeAnswer,
-  answerOf,
-}
+use Rattle.model.specs.Index.{keptWithKind, keptWith, closed, unlessFault, scanFrom, scanned}
+use Rattle.model.specs.Index.{firstMissing, missingOf, startSquare, wholeAnswer, faultAnswer}
+use Rattle.model.proofs.Checking.{answerOf}
 use Rattle.table.specs.Fields as fields
 use Rattle.table.specs.Reading as reading
 use Rattle.table.specs.Scan as scan
+use Rattle.table.specs.Nodes.{entryAt, putEntry}
 use Rattle.table.specs.Index as index
 use Rattle.acceptance.specs.Judging.{Judged}
 use Rattle.judge.specs.Verdicts.{verdictAnswer}
-use Rattle.judge.specs.Reaching.{withLanding, withLandings, enabledSquare, enabledSquares, waitedSquare, reachSquare}
-use Rattle.judge.specs.Walk.{successorFinding, orElse, successorsFrom, rowsFrom, nodesFrom, walked}
+use Rattle.judge.specs.Reaching.{withLanding, withLandings, enabledSquare, enabledBelow, enabledKeys, waitedSquare, reachSquare}
+use Rattle.judge.specs.Walk.{successorFinding, successorOutcome, orElse, successorsFrom, rowsFrom, nodeFinding, nodesFrom, walked}
 use Rattle.judge.specs.Deciding.{startVerdict}
 use Rattle.acceptance.specs.declared.certificate.Certificate.{Certificate}
 use Rattle.acceptance.proofs.CountLaws.{timeline}
-use Rattle.judge.proofs.Computing.{behindModel, behindWords, behindNodes, modelRead, tableRead, judged, computed, computes}
+use Rattle.judge.proofs.Computing.{behindModel, behindWords, behindNodes, judged, judgedBehind, judgedFrom, computed, computes}
 
 -- T; M is `timeline`
 abbrev table : List ℕ
@@ -76,14 +67,14 @@ answers :
     (verdictAnswer (computed timeline (boundedTable 0x51001002)) ≡ refused 18 4) ×
     (verdictAnswer (computed timeline (boundedTable 0x51001003)) ≡ accepts)
 unfolding
-    masked? boundOf boundFields? tighter? tighterOf sum negative? listOf withBound passedBelow source beforeBelow all? empty? inside? withWord
-    among kindOf tableKindOf follows tableFollows numbered? mayFollow? follows? tableFollows? fields? limit? adds? fieldsAt? limitAt? addsAt? faultAt
-    lastFault seenWithKind seenWith indexWithKind indexWith closed zonesWith unlessFault scanFrom scanned firstMissing startSquare wholeAnswer
-    answerOf fields.fields? reading.limit? scan.rowsAllowKind? scan.rowsAllowAt? scan.fieldsAt? scan.limitAt? scan.faultAt scan.lastFault
-    scan.firstRow scan.endRow scan.edgesAt scan.seenWithKind scan.seenWith index.nodesWith index.zonesWith index.unlessFault index.scanFrom
-    index.scanned index.numbersAnswer index.answerOf withLanding withLandings enabledSquare enabledSquares waitedSquare reachSquare
-    successorFinding orElse successorsFrom rowsFrom nodesFrom walked startVerdict verdictAnswer behindModel behindWords behindNodes modelRead
-    tableRead judged computed
+    masked? boundOf boundFields? tighter? tighterOf sum negative? listOf withBound passedBelow source beforeBelow all? empty? inside? zoneAt
+    putBelow putAt withWordAt among kindOf tableKindOf follows tableFollows numbered? mayFollow? follows? tableFollows? fields? limit? adds?
+    fieldsAt? limitAt? addsAt? faultAt lastFault seenWithKind seenWith keptWithKind keptWith closed unlessFault scanFrom scanned firstMissing
+    missingOf startSquare wholeAnswer faultAnswer answerOf fields.fields? reading.limit? scan.rowsAllowKind? scan.rowsAllowAt? scan.fieldsAt?
+    scan.limitAt? scan.faultAt scan.lastFault scan.firstRow scan.endRow scan.rowsAt scan.edgesAt scan.sizeAt scan.seenWithKind scan.seenWith entryAt putEntry
+    index.keptWithKind index.keptWith index.unlessFault index.scanFrom index.scanned index.numbersAnswer index.answerOf withLanding withLandings
+    enabledSquare enabledBelow enabledKeys waitedSquare reachSquare successorFinding successorOutcome orElse successorsFrom rowsFrom nodeFinding
+    nodesFrom walked startVerdict verdictAnswer behindModel behindWords behindNodes judged judgedBehind judgedFrom computed
 answers = (refl, refl, refl, refl, refl, refl, refl, refl)
 
 -- what is computed is the answer

@@ -8,14 +8,15 @@ use lib.ListN.{getD, length, drop}
 use lib.Seq.{getD-drop, drop-drop}
 use Rattle.model.specs.Model.{Action, Model}
 use Rattle.model.specs.States.{locationAt}
+use Rattle.model.specs.Index.{Kept as ModelKept}
 use Rattle.model.specs.Indexed.{Each, ActionAt, LocationAt, Indexed}
-use Rattle.model.specs.declared.read.ModelRead.{ModelRead}
 use Rattle.model.proofs.ZoneLaws.{All, empty, more}
 use Rattle.model.proofs.GoodModel.{GoodAction, GoodModel}
 use Rattle.model.proofs.WellFormed.{FormedAction, WellFormed}
 use Rattle.model.proofs.IndexLaws.{each-at, location-at}
 use Rattle.table.specs.Scan.{edgesAt}
 use Rattle.table.specs.Table.{Table, noNode, nodeAt}
+use Rattle.table.specs.Index.{Kept}
 use Rattle.table.specs.Indexed.{NodeIs, TableIndexed}
 use Rattle.table.specs.declared.read.TableRead.{TableRead}
 use Rattle.table.proofs.Shape.{NodeShaped, Shaped}
@@ -40,10 +41,10 @@ all-below d i empty l = absurd (omega arith)
 all-below d zero (more p ps) l = p
 all-below d (suc i) (more p ps) l = all-below d i ps (omega arith)
 
-pub node-at : {W : Table} {t : TableRead} → TableIndexed W t → (s : ℕ) → s < length (W .nodes) → NodeIs t s (nodeAt W s)
+pub node-at : {W : Table} {t : TableRead} {k : Kept} → TableIndexed W t k → (s : ℕ) → s < length (W .nodes) → NodeIs k s (nodeAt W s)
 unfolding nodeAt
-node-at {W} {t} i s l =
-    subst (λ (m : ℕ). NodeIs t m (getD (W .nodes) s noNode)) (zero-add s) (each-at (NodeIs t) 0 (W .nodes) noNode (i .each) s l)
+node-at {W} {t} {k} i s l =
+    subst (λ (n : ℕ). NodeIs k n (getD (W .nodes) s noNode)) (zero-add s) (each-at (NodeIs k) 0 (W .nodes) noNode (i .each) s l)
 
 pub shaped-at : {M : Model} {words : List ℕ} {W : Table} → Shaped M words W → (s : ℕ) → s < length (W .nodes) → NodeShaped M W words (nodeAt W s)
 unfolding nodeAt
@@ -52,58 +53,58 @@ shaped-at sh s l = all-below noNode s (sh .nodes) l
 -- ---- the actions
 
 -- an action with its number, and what holds of it in an accepted model
-pub record ActionIs (M : Model) (r : ModelRead) (a : ℕ) (A : Action) : Type 0 where
-  pub at : ActionAt r a A
+pub record ActionIs (M : Model) (m : ModelKept) (a : ℕ) (A : Action) : Type 0 where
+  pub at : ActionAt m a A
   pub good : GoodAction A
   pub formed : FormedAction M A
-  pub there : a < actionCount (r .index)
+  pub there : a < actionCount (m .index)
   pub limit : a < 32
 
-module _ (M : Model) (r : ModelRead) (x : Indexed M r) (good : GoodModel M) (formed : WellFormed M) where
+module _ (M : Model) (m : ModelKept) (x : Indexed M m) (good : GoodModel M) (formed : WellFormed M) where
   -- the actions of a location end where those of the model do, or before
-  ends-by : (n l : ℕ) → suc l + n ≡ length (M .locations) → getD (r .index .actions) (suc l) 0 ≤ actionCount (r .index)
-  ends-by zero l e = let q : suc l ≡ r .index .locations = omega (arith, e, x .locations) in rw q (omega arith)
+  ends-by : (n l : ℕ) → suc l + n ≡ length (M .locations) → getD (m .index .actions) (suc l) 0 ≤ actionCount (m .index)
+  ends-by zero l e = let q : suc l ≡ m .index .locations = omega (arith, e, x .locations) in rw q (omega arith)
   ends-by (suc n) l e =
       let next = location-at x (suc l) (omega arith) .ends in
       let rest = ends-by n (suc l) (omega arith) in
       omega arith
 
   -- there are at most 32
-  pub actions-fit : ActionsFit (r .index)
+  pub actions-fit : ActionsFit (m .index)
   actions-fit = record {
     locations = x .limit;
     actions =
         let some = formed .start in
         let last : ℕ = length (M .locations) - 1 in
-        let q : r .index .locations ≡ suc last = omega (arith, some, x .locations) in
+        let q : m .index .locations ≡ suc last = omega (arith, some, x .locations) in
         rw q (location-at x last (omega (arith, some)) .limit);
     edges = record { at = x .edgeLimits };
   }
 
   actions-from :
-      (As : List Action) (a : ℕ) → Each (ActionAt r) a As → All GoodAction As → All (FormedAction M) As → a + length As ≤ actionCount (r .index) →
-      Each (ActionIs M r) a As
+      (As : List Action) (a : ℕ) → Each (ActionAt m) a As → All GoodAction As → All (FormedAction M) As → a + length As ≤ actionCount (m .index) →
+      Each (ActionIs M m) a As
   unfolding Each
   actions-from [] a e empty empty l = tt
   actions-from (A ∷ As) a e (more g gs) (more f fs) l =
       let few = actions-fit .actions in
       (record { at = e .0; good = g; formed = f; there = omega arith; limit = omega arith }, actions-from As (suc a) (e .1) gs fs (omega arith))
 
-  pub actions-at : (l : ℕ) → l < length (M .locations) → Each (ActionIs M r) (getD (r .index .actions) l 0) (locationAt M l .actions)
+  pub actions-at : (l : ℕ) → l < length (M .locations) → Each (ActionIs M m) (getD (m .index .actions) l 0) (locationAt M l .actions)
   actions-at l h =
-      let L : LocationAt r l (locationAt M l) = location-at x l h in
+      let L : LocationAt m l (locationAt M l) = location-at x l h in
       let all = ends-by (length (M .locations) - suc l) l (omega arith) in
-      actions-from (locationAt M l .actions) (getD (r .index .actions) l 0) (L .actions) (good .guards l) (formed .actions l)
+      actions-from (locationAt M l .actions) (getD (m .index .actions) l 0) (L .actions) (good .guards l) (formed .actions l)
       (omega (arith, L .ends, all))
 
   -- how many they are
   pub actions-count : (l : ℕ) → l < length (M .locations) →
-      getD (r .index .actions) (l + 1) 0 - getD (r .index .actions) l 0 ≡ length (locationAt M l .actions)
+      getD (m .index .actions) (l + 1) 0 - getD (m .index .actions) l 0 ≡ length (locationAt M l .actions)
   actions-count l h =
       let e : l + 1 ≡ suc l = omega arith in
       let ends = location-at x l h .ends in
       rw e (omega (arith, ends))
 
-pub edges-at : {r : ModelRead} {a : ℕ} {A : Action} → ActionAt r a A → edgesAt (r .index) a ≡ length (A .edges)
+pub edges-at : {m : ModelKept} {a : ℕ} {A : Action} → ActionAt m a A → edgesAt (m .index) a ≡ length (A .edges)
 unfolding edgesAt
 edges-at {a = a} x = let e : a + 1 ≡ suc a = omega arith in rw e (omega (arith, x .ends))

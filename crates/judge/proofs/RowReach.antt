@@ -9,6 +9,7 @@ use lib.ListN.{getD, length}
 use Rattle.zone.specs.Scale.{Valuation, Zone, in?, Region, within, Empty, Inside}
 use Rattle.zone.specs.Moves.{delayed, ResetOf}
 use Rattle.zone.specs.Squares.{Tightens, universe, met, tightened, delayedSquare, beforeReset, resetSquare, reached, empty?, inside?}
+use Rattle.zone.specs.Stores.{zoneAt}
 use Rattle.zone.specs.declared.zones.Zone.{Zone as Square}
 use Rattle.zone.proofs.Bools.{true-false, both, and}
 use Rattle.zone.proofs.Sizes.{small-met, tightens-before, tightens-fewer}
@@ -18,9 +19,8 @@ use Rattle.zone.proofs.Attained.{Attained, between, reached-empty-yes, reached-
 use Rattle.model.specs.Fields.{landsAt}
 use Rattle.model.specs.Model.{Edge, Action, Model, edgeOf}
 use Rattle.model.specs.States.{State, locationAt}
-use Rattle.model.specs.Index.{noEdge}
+use Rattle.model.specs.Index.{Kept}
 use Rattle.model.specs.Indexed.{Each, withBounds, EdgeAt, ActionAt, Indexed}
-use Rattle.model.specs.declared.read.ModelRead.{ModelRead}
 use Rattle.model.proofs.ZoneLaws.{All, more, GoodZone, stands-bounds, tightens-bounds}
 use Rattle.model.proofs.GoodModel.{GoodAction, GoodModel}
 use Rattle.model.proofs.IndexLaws.{location-at, invariant-stands, guard-stands}
@@ -54,64 +54,64 @@ row-same y i e = ap tightened (met-assoc (delayedSquare (tightened (met y i))) i
 abbrev stateAt : ℕ → Valuation → State
 stateAt n v = record { location = n; valuation = v }
 
-module _ {M : Model} {r : ModelRead} (x : Indexed M r) (good : GoodModel M) where
+module _ {M : Model} {m : Kept} (x : Indexed M m) (good : GoodModel M) where
   -- ---- what an action asks of a valuation before its resets
   -- the guard holds and each edge lands in its location's invariant, from the location n
   abbrev pub asks : ℕ → Action → Region
   asks n A k v = within (A .guard) k v × T (land? M k (A .edges) (stateAt n v))
 
   landing-stands : (n : ℕ) {R : Region} {z : Square} (w : ℕ) (E : Edge) → edgeOf w ≡ E → FormedEdge M E → Stands R z →
-      Stands (λ k v. R k v × T (invariant? M k (landing E (stateAt n v)))) (withLanding (r .zones) w z)
+      Stands (λ k v. R k v × T (invariant? M k (landing E (stateAt n v)))) (withLanding (m .zones) w z)
   unfolding withLanding invariant? landing within
   landing-stands n {R} {z} w E e f s =
       subst
       (λ (F : Edge).
-      Stands (λ k v. R k v × T (invariant? M k (landing E (stateAt n v)))) (met z (beforeReset (F .mask) (getD (r .zones) (F .to) universe))))
+      Stands (λ k v. R k v × T (invariant? M k (landing E (stateAt n v)))) (met z (beforeReset (F .mask) (zoneAt (m .zones) (F .to)))))
       (sym e) (stands-met s (stands-before (E .mask) (invariant-stands x good (E .to) (f .to))))
 
-  landings-stand : (n : ℕ) {R : Region} {z : Square} (e : ℕ) (es : List Edge) → Each (EdgeAt r) e es → All (FormedEdge M) es → Stands R z →
-      Stands (λ k v. R k v × T (land? M k es (stateAt n v))) (withLandings (r .zones) (r .index .words) (length es) e z)
+  landings-stand : (n : ℕ) {R : Region} {z : Square} (e : ℕ) (es : List Edge) → Each (EdgeAt m) e es → All (FormedEdge M) es → Stands R z →
+      Stands (λ k v. R k v × T (land? M k es (stateAt n v))) (withLandings (m .zones) (m .edges) (length es) e z)
   unfolding withLandings land? Each
   landings-stand n e [] h f s = stands-same (λ k v p. (p, tt)) (λ k v p. p .0) s
   landings-stand n {R} {z} e (E ∷ es) h (more f fs) s =
       stands-same
       (λ k v p. (p .0 .0, and (invariant? M k (landing E (stateAt n v))) (land? M k es (stateAt n v)) (p .0 .1) (p .1)))
       (λ k v p. let (a, b) = both (invariant? M k (landing E (stateAt n v))) (land? M k es (stateAt n v)) (p .1) in ((p .0, a), b))
-      (landings-stand n (suc e) es (h .1) fs (landing-stands n (getD (r .index .words) e noEdge .word) E (h .0 .reads) f s))
+      (landings-stand n (suc e) es (h .1) fs (landing-stands n (getD (m .edges) e 0) E (h .0 .reads) f s))
 
   -- from the action's place in the index
-  counted : {a : ℕ} {A : Action} → ActionAt r a A → getD (r .index .edges) (suc a) 0 - getD (r .index .edges) a 0 ≡ length (A .edges)
+  counted : {a : ℕ} {A : Action} → ActionAt m a A → getD (m .index .edges) (suc a) 0 - getD (m .index .edges) a 0 ≡ length (A .edges)
   counted i = let e = i .ends in omega arith
 
-  pub enabled-stands : (n : ℕ) {a : ℕ} {A : Action} → ActionAt r a A → GoodAction A → All (FormedEdge M) (A .edges) →
-      Stands (asks n A) (enabledSquare (r .index) (r .zones) a)
+  pub enabled-stands : (n : ℕ) {a : ℕ} {A : Action} → ActionAt m a A → GoodAction A → All (FormedEdge M) (A .edges) →
+      Stands (asks n A) (enabledSquare m a)
   unfolding enabledSquare
-  enabled-stands n {a} {A} i g f = rw (counted i) (landings-stand n (getD (r .index .edges) a 0) (A .edges) (i .edges) f (guard-stands i g))
+  enabled-stands n {a} {A} i g f = rw (counted i) (landings-stand n (getD (m .index .edges) a 0) (A .edges) (i .edges) f (guard-stands i g))
 
-  landings-tighten : {z : Square} (e : ℕ) (es : List Edge) → Each (EdgeAt r) e es → All (FormedEdge M) es → Tightens 3 z →
-      Tightens 3 (withLandings (r .zones) (r .index .words) (length es) e z)
+  landings-tighten : {z : Square} (e : ℕ) (es : List Edge) → Each (EdgeAt m) e es → All (FormedEdge M) es → Tightens 3 z →
+      Tightens 3 (withLandings (m .zones) (m .edges) (length es) e z)
   unfolding withLandings withLanding Each
   landings-tighten e [] h f s = s
   landings-tighten {z} e (E ∷ es) h (more f fs) s = landings-tighten (suc e) es (h .1) fs (small-met z s _ (tightens-before _ lands _))
     where
       w : ℕ
-      w = getD (r .index .words) e noEdge .word
+      w = getD (m .edges) e 0
 
       to : landsAt w ≡ E .to
       to = ap (λ (F : Edge). F .to) (h .0 .reads)
 
-      lands : Tightens 3 (getD (r .zones) (landsAt w) universe)
+      lands : Tightens 3 (zoneAt (m .zones) (landsAt w))
       lands = rw (to, location-at x (E .to) (f .to) .invariant) (tightens-bounds (locationAt M (E .to) .invariant) (good .invariants (E .to)))
 
-  pub enabled-tightens : {a : ℕ} {A : Action} → ActionAt r a A → GoodAction A → All (FormedEdge M) (A .edges) →
-      Tightens 3 (enabledSquare (r .index) (r .zones) a)
+  pub enabled-tightens : {a : ℕ} {A : Action} → ActionAt m a A → GoodAction A → All (FormedEdge M) (A .edges) →
+      Tightens 3 (enabledSquare m a)
   unfolding enabledSquare
   enabled-tightens {a} {A} i g f =
-      rw (counted i) (landings-tighten (getD (r .index .edges) a 0) (A .edges) (i .edges) f (rw (i .guard) (tightens-bounds (A .guard) (g .guard))))
+      rw (counted i) (landings-tighten (getD (m .index .edges) a 0) (A .edges) (i .edges) f (rw (i .guard) (tightens-bounds (A .guard) (g .guard))))
 
   -- ---- a row
   module _
-      (N : Node) (l : N .location < length (M .locations)) (z : GoodZone (N .zone)) {a : ℕ} {A : Action} (i : ActionAt r a A) (g : GoodAction A)
+      (N : Node) (l : N .location < length (M .locations)) (z : GoodZone (N .zone)) {a : ℕ} {A : Action} (i : ActionAt m a A) (g : GoodAction A)
       (f : All (FormedEdge M) (A .edges))
     where
       abbrev invariant : Zone
@@ -125,10 +125,10 @@ module _ {M : Model} {r : ModelRead} (x : Indexed M r) (good : GoodModel M) wher
       ends = inBoth (within invariant) (asks (N .location) A)
 
       abbrev startTable : Square
-      startTable = met (withBounds (N .zone) universe) (getD (r .zones) (N .location) universe)
+      startTable = met (withBounds (N .zone) universe) (zoneAt (m .zones) (N .location))
 
       abbrev endTable : Square
-      endTable = met (getD (r .zones) (N .location) universe) (enabledSquare (r .index) (r .zones) a)
+      endTable = met (zoneAt (m .zones) (N .location)) (enabledSquare m a)
 
       starts-stand : Stands starts startTable
       starts-stand = stands-met (stands-bounds (N .zone) z) (invariant-stands x good (N .location) l)
@@ -136,7 +136,7 @@ module _ {M : Model} {r : ModelRead} (x : Indexed M r) (good : GoodModel M) wher
       ends-stand : Stands ends endTable
       ends-stand = stands-met (invariant-stands x good (N .location) l) (enabled-stands (N .location) i g f)
 
-      invariant-tightens : Tightens 3 (getD (r .zones) (N .location) universe)
+      invariant-tightens : Tightens 3 (zoneAt (m .zones) (N .location))
       invariant-tightens = rw (location-at x (N .location) l .invariant) (tightens-bounds invariant (good .invariants (N .location)))
 
       starts-tighten : Tightens 2 startTable
@@ -195,10 +195,10 @@ module _ {M : Model} {r : ModelRead} (x : Indexed M r) (good : GoodModel M) wher
 
       abbrev pub rowReach : Square
       rowReach =
-          reachSquare (waitedSquare (withBounds (N .zone) universe) (getD (r .zones) (N .location) universe)) (enabledSquare (r .index) (r .zones) a)
+          reachSquare (waitedSquare (withBounds (N .zone) universe) (zoneAt (m .zones) (N .location))) (enabledSquare m a)
 
       same : rowReach ≡ reached startTable endTable
-      same = row-same (withBounds (N .zone) universe) (getD (r .zones) (N .location) universe) (enabledSquare (r .index) (r .zones) a)
+      same = row-same (withBounds (N .zone) universe) (zoneAt (m .zones) (N .location)) (enabledSquare m a)
 
       pub blocked-yes : empty? rowReach ≡ true → Empty (Reach M N A)
       blocked-yes e = record {
@@ -206,8 +206,8 @@ module _ {M : Model} {r : ModelRead} (x : Indexed M r) (good : GoodModel M) wher
       }
 
       pub blocked-no : empty? rowReach ≡ false → Empty (Reach M N A) → ⊥
-      blocked-no e m =
-          reached-empty-no starts-tighten ends-tighten starts-stand ends-stand (sym (ap empty? same) ∙ e) (record { at = λ k k₁ v p. m .at k k₁ v (attained-reach k v p) })
+      blocked-no e q =
+          reached-empty-no starts-tighten ends-tighten starts-stand ends-stand (sym (ap empty? same) ∙ e) (record { at = λ k k₁ v p. q .at k k₁ v (attained-reach k v p) })
 
       -- the reach with masked clocks set to 0 lies in the zone S
       module _ (mask : ℕ) (S : Zone) (s : GoodZone S) where

@@ -9,22 +9,24 @@ use native.Mathlib.Omega.{arith}
 use borrow.Author.Tests.{eq-eqb, ne-eqb, le-leb, lt-leb}
 use lib.ListN.{length, getD}
 use Rattle.zone.specs.Words.{kind}
-use Rattle.zone.specs.Squares.{universe, empty?, Tightens}
+use Rattle.zone.specs.Squares.{empty?, Tightens}
+use Rattle.zone.specs.Stores.{zoneAt}
 use Rattle.zone.specs.declared.zones.Zone.{Zone as Square}
 use Rattle.model.specs.TableKinds.{blocked, tableNumber}
-use Rattle.model.specs.Fields.{weightOf}
-use Rattle.model.specs.Index.{noEdge}
-use Rattle.model.specs.declared.read.ModelRead.{ModelRead}
-use Rattle.model.proofs.ScanLaws.{noZone, one-default}
+use Rattle.model.specs.Scan.{guardsAt}
+use Rattle.model.specs.Index.{Kept as ModelKept}
 use Rattle.table.specs.Fields.{numberOf}
 use Rattle.table.specs.Scan.{edgesAt, rowSize}
-use Rattle.table.specs.Index.{noEntry}
+use Rattle.table.specs.Nodes.{entryAt}
+use Rattle.table.specs.Index.{Kept}
 use Rattle.table.specs.declared.nodes.NodeEntry.{NodeEntry}
 use Rattle.table.specs.declared.read.TableRead.{TableRead}
 use Rattle.judge.specs.Reaching.{EdgesFit, waitedSquare, reachSquare}
-use Rattle.judge.specs.Walk.{successorFinding, orElse, successorsFrom, rowsFrom, nodesFrom, walked, RowsInRange, NodeInRange}
+use Rattle.judge.specs.Walk.{successorOutcome, orElse, successorsFrom, rowsFrom, nodeFinding, nodesFrom, walked}
+use Rattle.judge.specs.Walk.{RowsInRange, NodeInRange}
 use Rattle.judge.specs.declared.walk.Finding.{Finding}
 use Rattle.judge.specs.declared.walk.Finding.the-variants as finding
+use Rattle.judge.specs.declared.walk.Outcome.{Outcome}
 use Rattle.judge.proofs.ReachSizes.{waited-tightens}
 
 -- a finding stands, whatever comes behind it
@@ -49,10 +51,6 @@ not-false false e = sym e
 one-left : (m n : ℕ) → n < m → m - n ≡ suc (m - suc n)
 one-left m n h = omega arith
 
--- a zone that is there
-pub zone-there : (zs : List Square) (n : ℕ) → n < length zs → getD zs n noZone ≡ getD zs n universe
-zone-there zs n h = one-default zs n noZone universe h
-
 pub product-small : (a b m n : ℕ) → a < m → b < n → a * b < m * n
 product-small a b m n h k =
     let l : b ≤ n = omega arith in
@@ -61,110 +59,107 @@ product-small a b m n h k =
     let q = mul-lt-mul-of-pos-right h o in
     omega arith
 
-module _ (words : List ℕ) (r : ModelRead) (es : List Square) (t : TableRead) where
-  -- what is kept of the node n
-  abbrev pub nodeAt : ℕ → NodeEntry
-  nodeAt n = getD (t .nodes) n noEntry
-
-  -- what stands behind it
-  abbrev pub behindNode : ℕ → Finding
-  behindNode n = nodesFrom words r es t (t .count - suc n) (suc n)
-
-  -- what stands behind the row of the action a, where it begins at the place `first` and has successors
-  abbrev pub behindRow : ℕ → Square → ℕ → ℕ → ℕ → ℕ → Finding
-  behindRow n waited limit end a first =
-      rowsFrom words r es t waited limit (behindNode n) (end - suc a) (suc a) (first + edgesAt (r .index) a)
-
-  -- before the node n, with what is found so far
-  pub record AtNode (f : Finding) (n : ℕ) : Type 0 where
-    pub none : f ≡ finding.None
-    pub within : n ≤ t .count
-    pub onward : walked words r es t ≡ nodesFrom words r es t (t .count - n) n
-
-  -- before the row of the action a, of those up to `end`, of the node n
-  pub record AtRow (n : ℕ) (waited : Square) (limit end : ℕ) (f : Finding) (at a : ℕ) : Type 0 where
-    pub none : f ≡ finding.None
-    pub tightens : Tightens 1 waited
-    pub last : end ≤ 32
-    pub fits : RowsInRange words r es t (end - a) a at
-    pub onward : walked words r es t ≡ rowsFrom words r es t waited limit (behindNode n) (end - a) a at
-
-  -- before the edge e, of those up to `last`, of the row of the action a
-  pub record AtSuccessor
-      (n : ℕ) (waited : Square) (limit end a : ℕ) (reach : Square) (empty : Bool) (first last : ℕ) (f : Finding) (at sum e : ℕ) : Type 0 where
-    pub none : f ≡ finding.None
-    pub edges : last ≤ 128
-    pub place : at + (last - e) ≡ first + edgesAt (r .index) a
-    pub within : first + edgesAt (r .index) a ≤ length words
-    pub small : sum ≤ e * 2 ^ 48
-    pub fits : RowsInRange words r es t (end - suc a) (suc a) (first + edgesAt (r .index) a)
-    pub onward : walked words r es t
-        ≡ successorsFrom words r es t reach empty limit first (behindRow n waited limit end a first) (last - e) e at sum
-
+module _ (words : List ℕ) (m : ModelKept) (k : Kept) where
   -- ---- nodes
-  pub nodes-begin : AtNode finding.None 0
+  -- before the node n, in a table whose head gives V; the whole walk comes to `goal`
+  pub record AtNode (goal : Finding) (whole count n : ℕ) : Type 0 where
+    pub within : n ≤ count
+    pub onward : goal ≡ nodesFrom words m k whole (count - n) n
+
+  pub nodes-begin : (t : TableRead) → AtNode (walked words m k t) (t .whole) (t .count) 0
   unfolding walked
-  nodes-begin =
+  nodes-begin t =
       let e : t .count - 0 ≡ t .count = omega arith in
-      record { none = refl; within = omega arith; onward = rw e }
+      record { within = omega arith; onward = rw e }
 
-  module _ {f : Finding} {n : ℕ} (i : AtNode f n) where
-    pub nodes-end : t .count ≤ n → f ≡ walked words r es t
+  module _ {goal : Finding} {whole count n : ℕ} (i : AtNode goal whole count n) where
+    pub nodes-end : count ≤ n → finding.None ≡ goal
     unfolding nodesFrom
-    nodes-end h = let e : t .count - n ≡ 0 = omega arith in i .none ∙ sym (i .onward ∙ rw e)
+    nodes-end h = let e : count - n ≡ 0 = omega arith in sym (i .onward ∙ rw e)
 
-    module _ (h : n < t .count) where
-      one-node : walked words r es t ≡ nodesFrom words r es t (suc (t .count - suc n)) n
-      one-node = i .onward ∙ ap (λ (m : ℕ). nodesFrom words r es t m n) (one-left (t .count) n h)
-
-      module _ (target : getD (r .index .targets) (nodeAt n .location) false ≡ true) where
-        pub target-bad : (nodeAt n .value ≡ t .whole → ⊥) → finding.BadTargetValue (nodeAt n .place) ≡ walked words r es t
-        unfolding nodesFrom
-        target-bad ne = sym (one-node ∙ rw (target, ne-eqb _ _ ne))
-
-        pub target-good : {f′ : Finding} → f′ ≡ f → nodeAt n .value ≡ t .whole → AtNode f′ (n + 1)
-        unfolding nodesFrom
-        target-good ef e = rw (add-one n) (record {
-          none = ef ∙ i .none;
-          within = omega arith;
-          onward = one-node ∙ rw (target, eq-eqb _ _ e);
-        })
-
-      -- a node whose location is no target
-      pub node-rows :
-          {waited : Square} → getD (r .index .targets) (nodeAt n .location) false ≡ false → NodeInRange words r es t n (nodeAt n) →
-          waited ≡ waitedSquare (getD (t .zones) n universe) (getD (r .zones) (nodeAt n .location) universe) →
-          AtRow n waited (r .index .denominator * nodeAt n .value) (getD (r .index .actions) (nodeAt n .location + 1) 0) f
-          (nodeAt n .place + 1) (getD (r .index .actions) (nodeAt n .location) 0)
+    module _ (h : n < count) {f : Finding} (e : f ≡ nodeFinding words m k whole n) where
+      one-node : goal ≡ orElse f (nodesFrom words m k whole (count - suc n) (suc n))
       unfolding nodesFrom
-      node-rows un fit e = rw (add-one (nodeAt n .place)) (record {
-        none = i .none;
-        tightens = rw e (waited-tightens (fit .zone) (fit .invariant));
-        last = fit .actions;
-        fits = fit .rows;
-        onward = one-node ∙ rw (un, e);
-      })
+      one-node = i .onward ∙ rw (one-left count n h, e)
+
+      pub node-found : (f ≡ finding.None → ⊥) → f ≡ goal
+      node-found un = found-first f _ un ∙ sym one-node
+
+      pub node-next : f ≡ finding.None → AtNode goal whole count (n + 1)
+      unfolding orElse
+      node-next none = rw (add-one n) (record { within = omega arith; onward = one-node ∙ rw none })
 
   -- ---- rows
-  module _ {n : ℕ} {waited : Square} {limit end : ℕ} {f : Finding} {at a : ℕ} (i : AtRow n waited limit end f at a) where
-    pub rows-end : {f′ : Finding} → f′ ≡ f → n < t .count → end ≤ a → AtNode f′ (n + 1)
+  -- before the row of the action a, of those up to `last`, of a node of that value; the whole node comes to `goal`
+  pub record AtRow (goal : Finding) (waited : Square) (value last : ℕ) (f : Finding) (at a : ℕ) : Type 0 where
+    pub none : f ≡ finding.None
+    pub tightens : Tightens 1 waited
+    pub limit : last ≤ 32
+    pub fits : RowsInRange words m k (last - a) a at
+    pub onward : goal ≡ rowsFrom words m k waited value (last - a) a at
+
+  -- the reach of the row of the action a, and whether it is empty
+  pub record ReachAt (waited : Square) (a : ℕ) (reach : Square) (empty : Bool) : Type 0 where
+    pub reaches : reach ≡ reachSquare waited (zoneAt (m .zones) (guardsAt + a))
+    pub empties : empty ≡ empty? reach
+
+  -- before the edge e, of those up to `end`, of the row of the action a, which begins at the place `first`
+  pub record AtSuccessor
+      (goal : Finding) (waited : Square) (value last a : ℕ) (reach : Square) (empty : Bool) (limit first end : ℕ) (f : Finding)
+      (at sum e : ℕ) : Type 0 where
+    pub none : f ≡ finding.None
+    pub edges : end ≤ 128
+    pub place : at + (end - e) ≡ first + edgesAt (m .index) a
+    pub within : first + edgesAt (m .index) a ≤ length words
+    pub small : sum ≤ e * 2 ^ 48
+    pub fits : RowsInRange words m k (last - suc a) (suc a) (first + edgesAt (m .index) a)
+    pub onward : goal ≡
+        orElse (successorsFrom words m k reach empty limit first (end - e) e at sum)
+        (rowsFrom words m k waited value (last - suc a) (suc a) (first + edgesAt (m .index) a))
+
+  module _ (whole n : ℕ) {N : NodeEntry} (e : N ≡ entryAt (k .nodes) n) where
+    module _ (target : getD (m .index .targets) (N .location) false ≡ true) where
+      pub target-good : N .value ≡ whole → finding.None ≡ nodeFinding words m k whole n
+      unfolding nodeFinding
+      target-good q = rw (← e, target, eq-eqb _ _ q)
+
+      pub target-bad : (N .value ≡ whole → ⊥) → finding.BadTargetValue (N .place) ≡ nodeFinding words m k whole n
+      unfolding nodeFinding
+      target-bad q = rw (← e, target, ne-eqb _ _ q)
+
+    -- a node whose location is no target
+    module _ {first last : ℕ} (un : getD (m .index .targets) (N .location) false ≡ false) (ef : first ≡ getD (m .index .actions) (N .location) 0)
+        (el : last ≡ getD (m .index .actions) (N .location + 1) 0) where
+      pub no-rows : first ≡ last → finding.None ≡ nodeFinding words m k whole n
+      unfolding nodeFinding rowsFrom
+      no-rows q =
+          let none : getD (m .index .actions) (N .location + 1) 0 - getD (m .index .actions) (N .location) 0 ≡ 0 = omega arith in
+          rw (← e, un, none)
+
+      pub node-rows : {y i waited : Square} → NodeInRange words m k n → y ≡ zoneAt (k .zones) n → i ≡ zoneAt (m .zones) (N .location) →
+          waited ≡ waitedSquare y i → AtRow (nodeFinding words m k whole n) waited (N .value) last finding.None (N .place + 1) first
+      unfolding nodeFinding
+      node-rows fit ey ei ew = rw (add-one (N .place), ew, ey, ei, ef, el) (record {
+        none = refl;
+        tightens = waited-tightens (fit .zone) (rw (← e) at (fit .invariant));
+        limit = rw (← e) at (fit .actions);
+        fits = rw (← e) at (fit .rows);
+        onward = rw (← e, un);
+      })
+
+  module _ {goal : Finding} {waited : Square} {value last : ℕ} {f : Finding} {at a : ℕ} (i : AtRow goal waited value last f at a) where
+    pub rows-end : last ≤ a → f ≡ goal
     unfolding rowsFrom
-    rows-end ef h k =
-        let e : end - a ≡ 0 = omega arith in
-        rw (add-one n) (record {
-          none = ef ∙ i .none;
-          within = omega arith;
-          onward = i .onward ∙ rw e;
-        })
+    rows-end h = let e : last - a ≡ 0 = omega arith in i .none ∙ sym (i .onward ∙ rw e)
 
-    module _ (h : a < end) where
-      one-row : walked words r es t ≡ rowsFrom words r es t waited limit (behindNode n) (suc (end - suc a)) a at
-      one-row = i .onward ∙ ap (λ (m : ℕ). rowsFrom words r es t waited limit (behindNode n) m a at) (one-left end a h)
+    module _ (h : a < last) where
+      one-row : goal ≡ rowsFrom words m k waited value (suc (last - suc a)) a at
+      one-row = i .onward ∙ ap (λ (c : ℕ). rowsFrom words m k waited value c a at) (one-left last a h)
 
-      one-fits : RowsInRange words r es t (suc (end - suc a)) a at
-      one-fits = rw (← one-left end a h) (i .fits)
+      one-fits : RowsInRange words m k (suc (last - suc a)) a at
+      one-fits = rw (← one-left last a h) (i .fits)
 
-      pub row-asked : Tightens 1 (getD es a universe)
+      pub row-asked : Tightens 1 (zoneAt (m .zones) (guardsAt + a))
       unfolding RowsInRange
       row-asked = one-fits .0
 
@@ -172,75 +167,71 @@ module _ (words : List ℕ) (r : ModelRead) (es : List Square) (t : TableRead) w
       unfolding RowsInRange
       row-place = one-fits .1
 
-      module _ {reach : Square} {empty : Bool} (er : reach ≡ reachSquare waited (getD es a universe)) (ee : empty ≡ empty? reach) where
-        pub row-not-blocked : kind (getD words at 0) ≡ tableNumber blocked → not empty ≡ true → finding.NotBlocked at ≡ walked words r es t
+      module _ {reach : Square} {empty : Bool} (r : ReachAt waited a reach empty) where
+        emptiness : empty? (reachSquare waited (zoneAt (m .zones) (guardsAt + a))) ≡ empty
+        emptiness = rw (← r .reaches) (sym (r .empties))
+
+        pub row-not-blocked : kind (getD words at 0) ≡ tableNumber blocked → not empty ≡ true → finding.NotBlocked at ≡ goal
         unfolding rowsFrom
-        row-not-blocked e un =
-            let q : empty? (reachSquare waited (getD es a universe)) ≡ false = ap empty? (sym er) ∙ sym ee ∙ not-true empty un in
-            sym (one-row ∙ rw (eq-eqb _ _ e, q))
+        row-not-blocked e un = sym (one-row ∙ rw (eq-eqb _ _ e, emptiness, not-true empty un))
 
         pub row-blocked :
             {f′ : Finding} {at′ : ℕ} → f′ ≡ f → at′ ≡ at + 1 → kind (getD words at 0) ≡ tableNumber blocked → not empty ≡ false →
-            AtRow n waited limit end f′ at′ (a + 1)
+            AtRow goal waited value last f′ at′ (a + 1)
         unfolding rowsFrom RowsInRange rowSize
         row-blocked ef ea e is =
-            let q : empty? (reachSquare waited (getD es a universe)) ≡ true = ap empty? (sym er) ∙ sym ee ∙ not-false empty is in
             rw (add-one a, ea, add-one at) (record {
               none = ef ∙ i .none;
               tightens = i .tightens;
-              last = i .last;
+              limit = i .limit;
               fits = rw (eq-eqb _ _ e, add-one at) at (one-fits .3);
-              onward = one-row ∙ rw (eq-eqb _ _ e, q);
+              onward = one-row ∙ rw (eq-eqb _ _ e, emptiness, not-false empty is);
             })
 
         pub row-successors :
-            (kind (getD words at 0) ≡ tableNumber blocked → ⊥) → EdgesFit (r .index) →
-            AtSuccessor n waited limit end a reach empty at (getD (r .index .edges) (a + 1) 0) f at 0 (getD (r .index .edges) a 0)
+            {limit : ℕ} → (kind (getD words at 0) ≡ tableNumber blocked → ⊥) → EdgesFit (m .index) → limit ≡ m .index .denominator * value →
+            AtSuccessor goal waited value last a reach empty limit at (getD (m .index .edges) (a + 1) 0) f at 0 (getD (m .index .edges) a 0)
         unfolding rowsFrom RowsInRange rowSize edgesAt
-        row-successors un fit = record {
+        row-successors un fit el = record {
           none = i .none;
           edges = fit .at (a + 1);
           place = refl;
           within = rw (ne-eqb _ _ un) at (one-fits .2);
           small = omega arith;
           fits = rw (ne-eqb _ _ un) at (one-fits .3);
-          onward = one-row ∙ rw (ne-eqb _ _ un, ee, er);
+          onward = one-row ∙ rw (ne-eqb _ _ un, emptiness, el, r .reaches);
         }
 
   -- ---- successors
   module _
-      {n : ℕ} {waited : Square} {limit end a : ℕ} {reach : Square} {empty : Bool} {first last : ℕ} {f : Finding} {at sum e : ℕ}
-      (i : AtSuccessor n waited limit end a reach empty first last f at sum e) where
-    module _ (h : e < last) where
-      one-successor :
-          walked words r es t
-          ≡ successorsFrom words r es t reach empty limit first (behindRow n waited limit end a first) (suc (last - suc e)) e at sum
-      one-successor =
-          i .onward
-          ∙ ap (λ (m : ℕ). successorsFrom words r es t reach empty limit first (behindRow n waited limit end a first) m e at sum)
-          (one-left last e h)
+      {goal : Finding} {waited : Square} {value last a : ℕ} {reach : Square} {empty : Bool} {limit first end : ℕ} {f : Finding} {at sum e : ℕ}
+      (i : AtSuccessor goal waited value last a reach empty limit first end f at sum e) where
+    abbrev behindRow : Finding
+    behindRow = rowsFrom words m k waited value (last - suc a) (suc a) (first + edgesAt (m .index) a)
 
+    module _ (h : e < end) where
       pub successor-place : at < length words
       successor-place = let p = i .place in let w = i .within in omega arith
 
-      module _
-          {w s : ℕ} {found : Finding} {z : Square} (ew : w ≡ getD (r .index .words) e noEdge .word) (es′ : s ≡ numberOf (getD words at 0))
-          (ez : z ≡ getD (t .zones) s universe) (ef : found ≡ successorFinding reach empty w (nodeAt s) z at) where
-        told : successorFinding reach empty (getD (r .index .words) e noEdge .word) (nodeAt (numberOf (getD words at 0)))
-            (getD (t .zones) (numberOf (getD words at 0)) universe) at ≡ found
-        told = sym (ef ∙ rw (ez, es′, ew))
-
-        pub successor-found : (found ≡ finding.None → ⊥) → found ≡ walked words r es t
+      module _ {w s : ℕ} {o : Outcome} (ew : w ≡ getD (m .edges) e 0) (es : s ≡ numberOf (getD words at 0))
+          (eo : o ≡ successorOutcome reach empty w k s at) where
+        one-successor :
+            goal ≡ orElse (orElse (o .finding) (successorsFrom words m k reach empty limit first (end - suc e) (suc e) (suc at) (sum + o .share)))
+            behindRow
         unfolding successorsFrom
-        successor-found un = sym (one-successor ∙ rw told (sym (found-first found _ un)))
+        one-successor = i .onward ∙ rw (one-left end e h, eo, es, ew)
 
-        pub successor-next :
-            {share : ℕ} → found ≡ finding.None → share ≡ weightOf w * nodeAt s .value → share < 2 ^ 48 →
-            AtSuccessor n waited limit end a reach empty first last f (at + 1) (sum + share) (e + 1)
-        unfolding successorsFrom orElse
-        successor-next is eg b =
+        pub successor-found : (o .finding ≡ finding.None → ⊥) → o .finding ≡ goal
+        successor-found un =
+            found-first (o .finding) behindRow un
+            ∙ sym (one-successor ∙ ap (λ (g : Finding). orElse g behindRow) (sym (found-first (o .finding) _ un)))
+
+        pub successor-next : o .finding ≡ finding.None → o .share < 2 ^ 48 →
+            AtSuccessor goal waited value last a reach empty limit first end f (at + 1) (sum + o .share) (e + 1)
+        unfolding orElse
+        successor-next is b =
             let p = i .place in
-            let k = i .small in
+            let q = i .small in
             rw (add-one at, add-one e) (record {
               none = i .none;
               edges = i .edges;
@@ -248,31 +239,30 @@ module _ (words : List ℕ) (r : ModelRead) (es : List Square) (t : TableRead) w
               within = i .within;
               small = omega arith;
               fits = i .fits;
-              onward = one-successor ∙ rw (told, is, eg, es′, ew);
+              onward = one-successor ∙ rw is;
             })
 
-    module _ (h : last ≤ e) where
-      none-left : walked words r es t ≡ successorsFrom words r es t reach empty limit first (behindRow n waited limit end a first) 0 e at sum
+    module _ (h : end ≤ e) where
+      none-left : goal ≡ orElse (successorsFrom words m k reach empty limit first 0 e at sum) behindRow
       none-left =
           i .onward
-          ∙ ap (λ (m : ℕ). successorsFrom words r es t reach empty limit first (behindRow n waited limit end a first) m e at sum)
-          (let q : last - e ≡ 0 = omega arith in q)
+          ∙ ap (λ (c : ℕ). orElse (successorsFrom words m k reach empty limit first c e at sum) behindRow)
+          (let q : end - e ≡ 0 = omega arith in q)
 
-      pub sum-large : limit < sum → finding.SumTooLarge first ≡ walked words r es t
-      unfolding successorsFrom
-      sum-large k = sym (none-left ∙ rw (lt-leb _ _ k))
+      pub sum-large : limit < sum → finding.SumTooLarge first ≡ goal
+      unfolding successorsFrom orElse
+      sum-large l = sym (none-left ∙ rw (lt-leb _ _ l))
 
-      pub row-end :
-          {f′ : Finding} {at′ : ℕ} → f′ ≡ f → at′ ≡ at → sum ≤ limit → Tightens 1 waited → end ≤ 32 →
-          AtRow n waited limit end f′ at′ (a + 1)
-      unfolding successorsFrom
-      row-end ef ea k tightens last′ =
+      pub row-end : {f′ : Finding} {at′ : ℕ} → f′ ≡ f → at′ ≡ at → sum ≤ limit → Tightens 1 waited → last ≤ 32 →
+          AtRow goal waited value last f′ at′ (a + 1)
+      unfolding successorsFrom orElse
+      row-end ef ea l tightens few =
           let p = i .place in
-          let q : at ≡ first + edgesAt (r .index) a = omega arith in
+          let q : at ≡ first + edgesAt (m .index) a = omega arith in
           rw (add-one a, ea, q) (record {
             none = ef ∙ i .none;
             tightens = tightens;
-            last = last′;
+            limit = few;
             fits = i .fits;
-            onward = none-left ∙ rw (le-leb _ _ k);
+            onward = none-left ∙ rw (le-leb _ _ l);
           })

@@ -6,28 +6,29 @@ use mathlib.Core.Bool.{Bool, true, false}
 use mathlib.Core.List.{List, [], _∷_}
 use native.Mathlib.Omega.{arith}
 use lib.ListN.{getD, length, drop, length-drop}
-use Rattle.zone.specs.Squares.{universe, Tightens}
-use Rattle.zone.specs.declared.zones.Zone.{Zone as Square}
+use Rattle.zone.specs.Squares.{Tightens}
+use Rattle.zone.specs.Stores.{zoneAt}
 use Rattle.model.specs.TableKinds.{blocked, isTable}
 use Rattle.model.specs.Model.{Action, Location, Model}
 use Rattle.model.specs.States.{locationAt}
+use Rattle.model.specs.Index.{Kept as ModelKept, StoresFit as ModelStoresFit}
 use Rattle.model.specs.Indexed.{Each, LocationAt, Indexed}
-use Rattle.model.specs.declared.read.ModelRead.{ModelRead}
 use Rattle.zone.proofs.Sizes.{tightens-fewer}
 use Rattle.model.proofs.ZoneLaws.{tightens-bounds}
 use Rattle.model.proofs.GoodModel.{GoodModel}
 use Rattle.model.proofs.WellFormed.{WellFormed}
 use Rattle.model.proofs.IndexLaws.{location-at}
 use Rattle.table.specs.Table.{Node, Table, nodeAt, rowActions, tableOf}
-use Rattle.table.specs.Index.{noEntry}
+use Rattle.table.specs.Nodes.{entryAt}
+use Rattle.table.specs.Index.{Kept, StoresFit}
 use Rattle.table.specs.Indexed.{NodeIs, TableIndexed}
 use Rattle.table.specs.declared.read.TableRead.{TableRead}
 use Rattle.table.specs.Scan.{rowSize}
 use Rattle.table.proofs.Shape.{RowStands, RowsStand, NodeShaped, Shaped}
-use Rattle.judge.specs.Reaching.{enabledSquares}
-use Rattle.judge.specs.Walk.{RowsInRange, NodeInRange, WalkInRange}
-use Rattle.judge.proofs.RowLaws.{front, behind, node-at, shaped-at, ActionIs, actions-at, actions-count, edges-at}
-use Rattle.judge.proofs.LandingLaws.{enabled-at}
+use Rattle.judge.specs.Reaching.{enabledKept}
+use Rattle.judge.specs.Walk.{RowsInRange, NodeInRange, WalkAsked}
+use Rattle.judge.proofs.RowLaws.{front, behind, node-at, shaped-at, ActionIs, actions-fit, actions-at, actions-count, edges-at}
+use Rattle.judge.proofs.LandingLaws.{enabled-length, enabled-invariant, enabled-at}
 use Rattle.judge.proofs.RowReach.{enabled-tightens}
 
 -- the words of a row that stands are there
@@ -43,65 +44,77 @@ row-there false nodes edges at words ws d s =
     let there = s .1 in
     (omega (arith, some, there), omega (arith, some, there))
 
-module _ (M : Model) (words : List ℕ) (r : ModelRead) (t : TableRead) (x : Indexed M r) (good : GoodModel M) (formed : WellFormed M) where
-  abbrev es : List Square
-  es = enabledSquares (r .index) (r .zones)
+module _ (M : Model) (words : List ℕ) (m : ModelKept) (k : Kept) (x : Indexed M m) (good : GoodModel M) (formed : WellFormed M)
+    (room : ModelStoresFit (m .edges) (m .zones)) where
+  -- the actions are enabled
+  abbrev e : ModelKept
+  e = enabledKept m
 
-  enabled-in-range : (a : ℕ) (A : Action) → ActionIs M r a A → Tightens 1 (getD es a universe)
+  enabled-in-range : (a : ℕ) (A : Action) → ActionIs M m a A → Tightens 1 (zoneAt (e .zones) (16 + a))
   enabled-in-range a A y =
-      rw (enabled-at (r .index) (r .zones) a (y .limit) (y .there))
+      rw (enabled-at m (actions-fit M m x good formed .actions) (room .zones) a (y .there))
       (tightens-fewer 1 3 _ (omega arith) (enabled-tightens x good (y .at) (y .good) (y .formed .edges)))
 
   rows-in-range :
-      (nodes : ℕ) (As : List Action) (a at : ℕ) (ws : List ℕ) → Each (ActionIs M r) a As → drop at words ≡ ws → RowsStand nodes As ws →
-      RowsInRange words r es t (length As) a at
+      (nodes : ℕ) (As : List Action) (a at : ℕ) (ws : List ℕ) → Each (ActionIs M m) a As → drop at words ≡ ws → RowsStand nodes As ws →
+      RowsInRange words e k (length As) a at
   unfolding Each RowsStand RowsInRange
   rows-in-range nodes [] a at ws y d s = tt
   rows-in-range nodes (A ∷ As) a at ws y d s =
       let b : Bool = isTable blocked (getD ws 0 0) in
       let n : ℕ = length (A .edges) in
       let there = row-there b nodes n at words ws d (s .0) in
-      let rest : RowsInRange words r es t (length As) (suc a) (at + rowSize b n) =
+      let rest : RowsInRange words e k (length As) (suc a) (at + rowSize b n) =
       rows-in-range nodes As (suc a) (at + rowSize b n) (drop (rowSize b n) ws) (y .1) (behind (rowSize b n) at words ws d) (s .1) in
       rw (front at words ws d, edges-at (y .0 .at))
       (enabled-in-range a A (y .0), there .0, there .1, rest)
 
-  module _ (W : Table) (n : ℕ) (N : Node) (k : NodeIs t n N) (g : NodeShaped M W words N) where
+  module _ (W : Table) (n : ℕ) (N : Node) (i : NodeIs k n N) (g : NodeShaped M W words N) where
     abbrev L : Location
     L = locationAt M (N .location)
 
-    location-is : LocationAt r (N .location) L
+    location-is : LocationAt m (N .location) L
     location-is = location-at x (N .location) (g .exists)
 
-    node-in-range : getD (r .index .targets) (getD (t .nodes) n noEntry .location) false ≡ false →
-        NodeInRange words r es t n (getD (t .nodes) n noEntry)
+    in-slots : N .location < 16
+    in-slots = omega (arith, g .exists, x .locations, x .limit)
+
+    node-in-range : getD (m .index .targets) (entryAt (k .nodes) n .location) false ≡ false → NodeInRange words e k n
     unfolding rowActions
-    node-in-range e =
+    node-in-range un =
         let next : N .location + 1 ≡ suc (N .location) = omega arith in
-        let other : L .target ≡ false = sym (location-is .target) ∙ (rw (k .location) at e) in
+        let other : L .target ≡ false = sym (location-is .target) ∙ (rw (i .location) at un) in
         let stands : RowsStand (length (W .nodes)) (L .actions) (drop (suc (N .place)) words) = rw other at (g .stands) in
-        let rows : RowsInRange words r es t (length (L .actions)) (getD (r .index .actions) (N .location) 0) (suc (N .place)) =
-        rows-in-range (length (W .nodes)) (L .actions) _ (suc (N .place)) _ (actions-at M r x good formed (N .location) (g .exists)) refl stands in
+        let rows : RowsInRange words e k (length (L .actions)) (getD (m .index .actions) (N .location) 0) (suc (N .place)) =
+        rows-in-range (length (W .nodes)) (L .actions) _ (suc (N .place)) _ (actions-at M m x good formed (N .location) (g .exists)) refl stands in
         record {
-          zone = rw (k .zone) (tightens-fewer 2 3 _ (omega arith) (tightens-bounds (N .zone) (g .zone)));
+          zone = rw (i .zone) (tightens-fewer 2 3 _ (omega arith) (tightens-bounds (N .zone) (g .zone)));
           invariant =
-              rw (k .location, location-is .invariant)
+              rw (i .location, enabled-invariant m (N .location) in-slots, location-is .invariant)
               (tightens-fewer 2 3 _ (omega arith) (tightens-bounds (L .invariant) (good .invariants (N .location))));
-          place = rw (k .place) (g .place);
-          actions = rw (k .location, next) (location-is .limit);
-          rows = rw (k .location, k .place, actions-count M r x good formed (N .location) (g .exists)) rows;
+          place = rw (i .place) (g .place);
+          actions = rw (i .location, next) (location-is .limit);
+          rows = rw (i .location, i .place, actions-count M m x good formed (N .location) (g .exists)) rows;
         }
 
-module _ (M : Model) (words : List ℕ) (r : ModelRead) (t : TableRead) (x : Indexed M r) (good : GoodModel M) (formed : WellFormed M)
-    (i : TableIndexed (tableOf M words) t) (sh : Shaped M words (tableOf M words)) where
-  pub walk-in-range : WalkInRange words r (enabledSquares (r .index) (r .zones)) t
-  walk-in-range = record {
+module _ (M : Model) (words : List ℕ) (m : ModelKept) (t : TableRead) (k : Kept) (x : Indexed M m) (good : GoodModel M) (formed : WellFormed M)
+    (i : TableIndexed (tableOf M words) t k) (sh : Shaped M words (tableOf M words)) (room : ModelStoresFit (m .edges) (m .zones))
+    (rooms : StoresFit (k .nodes) (k .zones)) where
+  pub walk-asked : WalkAsked words (enabledKept m) k (t .count)
+  walk-asked = record {
     count = i .limit;
-    edges = record { at = x .edgeLimits };
-    locations = λ n l.
-        let exists = shaped-at sh n (below n l) .exists in
-        rw (node-at i n (below n l) .location) (omega (arith, exists, x .locations, x .limit));
-    nodes = λ n l. node-in-range M words r t x good formed W n (nodeAt W n) (node-at i n (below n l)) (shaped-at sh n (below n l));
+    nodes = λ n l. record {
+      stores = record {
+        model = record { edges = room .edges; zones = rw (enabled-length m) (room .zones) };
+        table = rooms;
+        edges = record { at = x .edgeLimits };
+      };
+      number = omega (arith, l, i .limit);
+      location =
+          rw (node-at i n (below n l) .location)
+          (in-slots M words m k x good formed room W n (nodeAt W n) (node-at i n (below n l)) (shaped-at sh n (below n l)));
+      node = node-in-range M words m k x good formed room W n (nodeAt W n) (node-at i n (below n l)) (shaped-at sh n (below n l));
+    };
   }
     where
       W : Table

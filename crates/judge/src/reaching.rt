@@ -1,32 +1,29 @@
 // The zones of a row's reach: what waiting attains, and what an action attains of it before its resets.
 ghost use mathlib.Core.Path.{_≡_};
 ghost use Rattle.zone.specs.Squares.{Tightens};
-ghost use Rattle.judge.specs.Reaching.{ActionsFit, enabledSquares, waitedSquare, reachSquare};
+ghost use Rattle.model.specs.Index.{StoresFit, keep};
+ghost use Rattle.judge.specs.Reaching.{ActionsFit, enabledKeys, waitedSquare, reachSquare};
 use model::fields;
 use model::index::Index;
 use model::places::GUARDS;
-use model::places::ZONES;
 use zone::zones::Zone;
 
-// What each action asks of a valuation before its resets: its guard holds, and each of its edges lands in its location's invariant. `zones` are
-// those of the model. Behind its last action stands every valuation.
-pub(crate) fn enabled_zones(index: Index, zones: [Zone; ZONES]) -> [Zone; 32]
-    requires { ⌜ ActionsFit index ⌝ }
-    ensures { λ r. ⌜ r ≡ enabledSquares index zones ⌝ }
+// Puts in place of each guard what its action asks of a valuation before its resets: its guard holds, and each of its edges lands in its
+// location's invariant. `edges` and `zones` are those of the model.
+pub(crate) fn enable(index: Index, edges: &[u32], zones: &mut [i32])
+    requires { ⌜ ActionsFit index × StoresFit (now edges) (now zones) ⌝ }
+    ensures { λ _. ⌜ now (zones .exit) ≡ enabledKeys (keep index (now (edges .entry)) (now (zones .entry))) ⌝ }
 {
-    let universe = Zone::universe();
-    let mut enabled = [universe; 32];
     let locations = index.locations;
-    for a in 0..index.actions[locations] {
-        let mut zone = zones[GUARDS + a];
-        for e in index.edges[a]..index.edges[a + 1] {
-            let edge = index.words[e];
-            let invariant = zones[fields::lands_at(edge.word) as usize];
-            zone = zone.meet(invariant.before_reset(fields::mask_of(edge.word)));
+    for a in 0..index.actions[locations] as usize {
+        let mut zone = Zone::load(zones, GUARDS + a);
+        for e in index.edges[a] as usize..index.edges[a + 1] as usize {
+            let edge = edges[e];
+            let invariant = Zone::load(zones, fields::lands_at(edge) as usize);
+            zone = zone.meet(invariant.before_reset(fields::mask_of(edge)));
         }
-        enabled[a] = zone;
+        zone.put(zones, GUARDS + a);
     }
-    enabled
 }
 
 // What waiting attains from the states in a zone, within the invariant. Invariants may be lower bounds, and a zone need not lie in its

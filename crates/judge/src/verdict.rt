@@ -9,10 +9,13 @@ use crate::reaching;
 use crate::walk;
 use crate::walk::Finding;
 use acceptance::certificate::Certificate;
+use model::places;
+use model::places::EDGES;
 use model::read as models;
 use model::read::ModelAnswer;
 use table::nodes::NodeEntry;
 use table::read as tables;
+use table::read::NODE_NUMBERS;
 use table::read::TableAnswer;
 use zone::zones::Zone;
 
@@ -82,7 +85,7 @@ pub(crate) fn node_refused(finding: Finding) -> Verdict
 
 // The last checks: the start node, at a place, has the start location, and its zone holds the start valuations.
 pub(crate) fn start_verdict(
-    start: usize,
+    start: u32,
     initial: Zone,
     node: NodeEntry,
     zone: Zone,
@@ -106,35 +109,38 @@ pub fn judge(model: &[u32], table: &[u32]) -> Verdict
     ensures exactly { λ r. ⌜ Exactly (now (model .entry)) (now (table .entry)) (verdictAnswer r) ⌝ }
     ensures bounds { λ r. ⌜ BoundsSchedulers (now (model .entry)) (verdictAnswer r) ⌝ }
 {
-    let model_read = models::index_model(model);
+    let mut edges = [0u32; EDGES];
+    let mut guards = [0i32; places::ZONE_KEYS];
+    let model_read = models::index_model(model, &mut edges, &mut guards);
     let model_answer = model_read.answer;
     let ModelAnswer::Accepted(_) = model_answer else {
         return model_refused(model_answer);
     };
     let index = model_read.index;
-    let table_read = tables::index_table(index, table);
+    let mut nodes = [0usize; NODE_NUMBERS];
+    let mut zones = [0i32; tables::ZONE_KEYS];
+    let table_read = tables::index_table(index, table, &mut nodes, &mut zones);
     let table_answer = table_read.answer;
     let TableAnswer::Good = table_answer else {
         return words_refused(table_answer);
     };
-    let zones = model_read.zones;
-    let enabled = reaching::enabled_zones(index, zones);
-    let finding = walk::walk(table, model_read, enabled, table_read);
+    reaching::enable(index, &edges, &mut guards);
+    let finding = walk::walk(table, index, &edges, &guards, table_read, &nodes, &zones);
     let Finding::None = finding else {
         return node_refused(finding);
     };
     let s = table_read.start as usize;
-    let node = table_read.nodes[s];
+    let node = NodeEntry::load(&nodes, s);
     let certificate = Certificate {
         b: node.value,
         whole: table_read.whole,
         nodes: table_read.count,
     };
     start_verdict(
-        index.start as usize,
+        index.start,
         model_read.initial,
         node,
-        table_read.zones[s],
+        Zone::load(&zones, s),
         table_read.place,
         certificate,
     )

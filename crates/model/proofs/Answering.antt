@@ -4,45 +4,55 @@ use mathlib.Core.Path.{_≡_, refl, sym, ap, subst, _∙_}
 use mathlib.Core.Bool.{Bool, true, false}
 use mathlib.Core.Logic.{inl, inr}
 use mathlib.Core.List.{List, [], _∷_, _++_}
+use native.Mathlib.Nat.{zero-add}
 use native.Mathlib.Omega.{arith}
-use lib.ListN.{getD, length, replicate, take}
+use lib.IntN.{ℤ}
+use lib.ListN.{length, take}
 use Rattle.zone.specs.Checks.{Check, check, First}
-use Rattle.zone.specs.Squares.{universe, empty?}
+use Rattle.zone.specs.Squares.{universe, met, tightened, empty?, Tightens}
+use Rattle.zone.specs.Stores.{zoneAt}
 use Rattle.zone.specs.declared.zones.Zone.{Zone as Square}
-use Rattle.model.specs.Kinds.{location, edge, start, number}
+use Rattle.model.specs.Kinds.{location, start, number}
 use Rattle.model.specs.Model.{Model, modelOf}
 use Rattle.model.specs.States.{locationAt, HasStart}
 use Rattle.model.specs.Before.{countOf, indexOf}
 use Rattle.model.specs.Reading.{edgeChecks, modelChecks, countsOf, ReadModel, modelAnswer}
-use Rattle.model.specs.Scan.{nothing}
-use Rattle.model.specs.Index.{emptyIndex, scanned, firstMissing, startSquare, countsAt, wholeAnswer, answerOf}
-use Rattle.model.specs.Indexed.{withBounds, edgesFrom, Indexed, IndexedWhere}
+use Rattle.model.specs.Scan.{startBoundsAt, nothing}
+use Rattle.model.specs.Index.{emptyIndex, Kept, keep, StoresFit, Pass, passAt, scanned}
+use Rattle.model.specs.Index.{firstMissing, missingOf, startSquare, countsAt, wholeAnswer, faultAnswer}
+use Rattle.model.specs.Indexed.{withBounds, Indexed, KeptFor, IndexedWhere}
 use Rattle.model.specs.declared.seen.Seen.{Seen}
 use Rattle.model.specs.declared.seen.Fault.{Fault}
 use Rattle.model.specs.declared.seen.Fault.the-variants as fault
-use Rattle.model.specs.declared.index.EdgeWord.{EdgeWord}
+use Rattle.model.specs.declared.index.Index.{Index}
 use Rattle.model.specs.declared.index.Missing.{Missing}
 use Rattle.model.specs.declared.index.Missing.the-variants as missing
-use Rattle.model.specs.declared.scan.Scanned.{Scanned}
 use Rattle.model.specs.declared.read.Counts.{Counts}
 use Rattle.model.specs.declared.read.ModelAnswer.{ModelAnswer}
 use Rattle.model.specs.declared.read.ModelAnswer.the-variants as answer
 use Rattle.model.specs.declared.read.ModelRead.{ModelRead}
-use Rattle.model.proofs.Run.{Run, seenEnd, indexEnd, zonesEnd, run-of, end-of}
-use Rattle.model.proofs.Edges.{edges-first, edge-words}
+use Rattle.model.proofs.Run.{Run, seenEnd, keptEnd, run-of, end-of}
+use Rattle.model.proofs.Edges.{edges-first, missing-is, edge-words}
 use Rattle.model.proofs.Entries.{numbers-end}
-use Rattle.model.proofs.Checking.{words-first}
+use Rattle.model.proofs.Checking.{answerOf, words-first}
 use Rattle.model.proofs.Counts.{counts-end, place-end, start-below}
 use Rattle.model.proofs.Indexing.{indexed}
 use Rattle.model.proofs.GoodModel.{good-model}
-use Rattle.model.proofs.Starting.{start-yes, start-no}
+use Rattle.model.proofs.Starting.{start-fits, start-yes, start-no}
 use Rattle.model.proofs.IndexLaws.{location-at}
 
 -- the answer of the whole file, from what the pass leaves
-abbrev pub wholeOf : Scanned → ModelAnswer
-wholeOf r =
-    wholeAnswer (firstMissing (r .seen .locations) (take (r .seen .edges) (r .index .words)))
-    (empty? (startSquare (r .seen .start) (r .zones))) (r .seen)
+abbrev pub wholeOf : List ℕ → Pass → ModelAnswer
+wholeOf words q = wholeAnswer (missingOf (q .seen) words) (empty? (startSquare (q .seen .start) (q .kept .zones))) (q .seen)
+
+-- what the call returns, as the definitions compute it from what the pass leaves
+abbrev pub readOf : List ℕ → Pass → ModelRead
+readOf words q =
+    record {
+      answer = answerOf (q .fault) (q .place) (wholeOf words q);
+      index = q .kept .index;
+      initial = startSquare (q .seen .start) (q .kept .zones);
+    }
 
 -- what 6 is about
 abbrev startCheck : List ℕ → Check
@@ -64,132 +74,147 @@ unfolding wholeAnswer modelAnswer
 start-first words s true place counts present absent = inr (absent refl, rw place)
 start-first words s false place counts present absent = inl (present refl, counts)
 
--- 5 and 6: es are the edge words
-whole-first : (words : List ℕ) (s : Seen) (es : List EdgeWord) (e : Bool) →
-    es ≡ edgesFrom 0 words → s .place ≡ indexOf (number start) words → countsAt s ≡ countsOf words →
+-- 5 and 6: m is the first edge that leads nowhere
+whole-first : (words : List ℕ) (s : Seen) (m : Missing) (e : Bool) →
+    m ≡ firstMissing (s .locations) 0 words → s .place ≡ indexOf (number start) words → countsAt s ≡ countsOf words →
     (e ≡ false → HasStart (modelOf words)) → (e ≡ true → HasStart (modelOf words) → ⊥) →
-    First (fileChecks words) (Right words)
-    (modelAnswer (wholeAnswer (firstMissing (s .locations) es) e s))
-whole-first words s es e edges place counts present absent =
+    First (fileChecks words) (Right words) (modelAnswer (wholeAnswer m e s))
+whole-first words s m e edges place counts present absent =
     subst (λ (m : Missing). First (fileChecks words) (Right words) (modelAnswer (wholeAnswer m e s)))
-    (ap (λ (L : ℕ). firstMissing L (edgesFrom 0 words)) (sym (ap (λ (c : Counts). c .locations) counts))
-    ∙ ap (firstMissing (s .locations)) (sym edges))
+    (ap (λ (L : ℕ). firstMissing L 0 words) (sym (ap (λ (c : Counts). c .locations) counts)) ∙ sym edges)
     (edges-first (countOf (number location) words) 0 words (startCheck words ∷ []) (Right words) e s
     (λ h. start-first words s e place counts present absent))
 
--- what the call returns, from what the pass leaves and the answer
-abbrev pub readOf : Scanned → ModelAnswer → ModelRead
-readOf r a = record { answer = a; index = r .index; zones = r .zones; initial = startSquare (r .seen .start) (r .zones) }
-
--- what a pass without a fault leaves
-abbrev ended : List ℕ → Scanned
-ended words =
-    record {
-      fault = fault.None;
-      place = length words;
-      seen = seenEnd nothing 0 words;
-      index = indexEnd nothing emptyIndex 0 words;
-      zones = zonesEnd nothing (replicate 49 universe) 0 words;
-    }
-
-module _ (words : List ℕ) (run : Run nothing 0 words) where
-  abbrev M : Model
-  M = modelOf words
-
-  abbrev zs : List Square
-  zs = zonesEnd nothing (replicate 49 universe) 0 words
-
-  -- the start location, as it is counted and as the index has it
-  counted : indexEnd nothing emptyIndex 0 words .start ≡ seenEnd nothing 0 words .start
-  counted = numbers-end nothing emptyIndex 0 words .start
-
-  pub end-indexed : (a : ModelAnswer) → Indexed M (readOf (ended words) a)
-  end-indexed a =
-      subst (λ (l : ℕ). Indexed M (record { answer = a; index = indexEnd nothing emptyIndex 0 words; zones = zs; initial = startSquare l zs }))
-      counted
-      (indexed words a run)
-
-  -- which answer stands beside the index has no part in what the index says
-  x : Indexed M (readOf (ended words) (answer.BadModelKind 0))
-  x = end-indexed (answer.BadModelKind 0)
-
-  starts : seenEnd nothing 0 words .start ≡ M .start
-  starts = sym counted ∙ x .start
-
-  pub start-exists : modelOf words .start < length (modelOf words .locations)
-  start-exists =
-      rw (sym starts, sym (x .locations), numbers-end nothing emptyIndex 0 words .locations) (start-below words run)
-
-  invariant : getD zs (M .start) universe ≡ withBounds (locationAt M (M .start) .invariant) universe
-  invariant = location-at x (M .start) start-exists .invariant
-
-  present : empty? (startSquare (seenEnd nothing 0 words .start) zs) ≡ false → HasStart M
-  present e = start-yes M zs (good-model words run) invariant (x .startBounds) start-exists (rw (sym starts) e)
-
-  absent : empty? (startSquare (seenEnd nothing 0 words .start) zs) ≡ true → HasStart M → ⊥
-  absent e = start-no M zs (good-model words run) invariant (x .startBounds) (rw (sym starts) e)
-
--- the answer, by every check
-pub answered : (words : List ℕ) → ReadModel words (modelAnswer (answerOf (scanned words .fault) (scanned words .place) (wholeOf (scanned words))))
-unfolding modelChecks scanned
-answered words = record { says = words-first words (fileChecks words) (Right words) (wholeOf (scanned words)) good }
-  where
-    good : scanned words .fault ≡ fault.None → First (fileChecks words) (Right words) (modelAnswer (wholeOf (scanned words)))
-    good none =
-        let run : Run nothing 0 words = run-of nothing emptyIndex (replicate 49 universe) 0 words none in
-        subst (λ (r : Scanned). First (fileChecks words) (Right words) (modelAnswer (wholeOf r)))
-        (sym (end-of nothing emptyIndex (replicate 49 universe) 0 words run))
-        (whole-first words (seenEnd nothing 0 words) _ _ (edge-words words run) (place-end words run) (counts-end words run)
-        (present words run) (absent words run))
-
 -- only a pass without a fault leads to an acceptance
 pub accepted-only : (f : Fault) (p : ℕ) (whole : ModelAnswer) (counts : Counts) → answerOf f p whole ≡ answer.Accepted counts → f ≡ fault.None
-unfolding answerOf
+unfolding answerOf faultAnswer
 accepted-only fault.None p whole counts e = refl
 accepted-only fault.Kind p whole counts e = let z : _≡_ {A = ℕ} 0 1 = cc in absurd (omega arith)
 accepted-only fault.Field p whole counts e = let z : _≡_ {A = ℕ} 0 1 = cc in absurd (omega arith)
 accepted-only fault.Limit p whole counts e = let z : _≡_ {A = ℕ} 0 1 = cc in absurd (omega arith)
 accepted-only fault.Weights p whole counts e = let z : _≡_ {A = ℕ} 0 1 = cc in absurd (omega arith)
 
--- the index of an accepted model says what its words hold
-pub index-of : (words : List ℕ) →
-    IndexedWhere words (readOf (scanned words) (answerOf (scanned words .fault) (scanned words .place) (wholeOf (scanned words))))
-unfolding scanned
-index-of words = record { accepted = λ counts h. where-run counts h .0; edgeWords = λ counts h. where-run counts h .1 }
-  where
-    a : ModelAnswer
-    a = answerOf (scanned words .fault) (scanned words .place) (wholeOf (scanned words))
+-- ---- a pass without a fault
+module _ (words es : List ℕ) (zs : List ℤ) (fit : StoresFit es zs) where
+  abbrev M : Model
+  M = modelOf words
 
-    Says : Scanned → Type 0
-    Says r = Indexed (modelOf words) (readOf r a) × (take (countOf (number edge) words) (r .index .words) ≡ edgesFrom 0 words)
+  -- what it comes to, and what it keeps
+  abbrev seen : Seen
+  seen = seenEnd nothing 0 words
 
-    where-run : (counts : Counts) → a ≡ answer.Accepted counts → Says (scanned words)
-    where-run counts h =
-        let run : Run nothing 0 words =
-        run-of nothing emptyIndex (replicate 49 universe) 0 words
-        (accepted-only (scanned words .fault) (scanned words .place) (wholeOf (scanned words)) counts h) in
+  abbrev kept : Kept
+  kept = keptEnd nothing (keep emptyIndex es zs) 0 words
+
+  module _ (run : Run nothing 0 words) where
+    x : Indexed M kept
+    x = indexed words es zs fit run
+
+    starts : seen .start ≡ M .start
+    starts = sym (numbers-end nothing (keep emptyIndex es zs) 0 words .start) ∙ x .start
+
+    pub start-exists : M .start < length (M .locations)
+    start-exists =
+        rw (sym starts, sym (x .locations), numbers-end nothing (keep emptyIndex es zs) 0 words .locations) (start-below words run)
+
+    invariant : zoneAt (kept .zones) (M .start) ≡ withBounds (locationAt M (M .start) .invariant) universe
+    invariant = location-at x (M .start) start-exists .invariant
+
+    tightens : Tightens 1 (met (zoneAt (kept .zones) (seen .start)) (zoneAt (kept .zones) startBoundsAt))
+    tightens = rw starts (start-fits M (kept .zones) (good-model words run) invariant (x .startBounds))
+
+    present : empty? (startSquare (seen .start) (kept .zones)) ≡ false → HasStart M
+    present e = start-yes M (kept .zones) (good-model words run) invariant (x .startBounds) start-exists (rw (sym starts) e)
+
+    absent : empty? (startSquare (seen .start) (kept .zones)) ≡ true → HasStart M → ⊥
+    absent e = start-no M (kept .zones) (good-model words run) invariant (x .startBounds) (rw (sym starts) e)
+
+    -- what a call returns and leaves in the stores says what the words hold
+    kept-for : (r : ModelRead) → r .index ≡ kept .index → r .initial ≡ startSquare (seen .start) (kept .zones) →
+        KeptFor words r (kept .edges) (kept .zones)
+    kept-for r same initial =
         let edges = ap (λ (c : Counts). c .edges) (counts-end words run) in
-        subst Says (sym (end-of nothing emptyIndex (replicate 49 universe) 0 words run))
-        (end-indexed words run a, ap (λ (n : ℕ). take n (indexEnd nothing emptyIndex 0 words .words)) (sym edges) ∙ edge-words words run)
+        record {
+          indexed = rw same x;
+          initial = initial ∙ ap (λ (l : ℕ). startSquare l (kept .zones))
+              (sym (numbers-end nothing (keep emptyIndex es zs) 0 words .start) ∙ ap (λ (i : Index). i .start) (sym same));
+          edges = ap (λ (n : ℕ). take n (kept .edges)) (sym edges) ∙ edge-words words es zs fit run;
+        }
 
--- both promises of the call, from what its steps return
-pub returned : (words : List ℕ) (r : Scanned) (z : Square) (m : Missing) (e : Bool) (w a : ModelAnswer) →
-    r ≡ scanned words → z ≡ startSquare (r .seen .start) (r .zones) →
-    m ≡ firstMissing (r .seen .locations) (take (r .seen .edges) (r .index .words)) →
-    e ≡ empty? z → w ≡ wholeAnswer m e (r .seen) → a ≡ answerOf (r .fault) (r .place) w →
-    ReadModel words (modelAnswer a) ×
-    IndexedWhere words (record { answer = a; index = r .index; zones = r .zones; initial = z })
-returned words r z m e w a scan zone miss test whole ends =
-    subst (λ (y : Square). Both a (record { answer = a; index = r .index; zones = r .zones; initial = y })) (sym zone)
-    (subst (λ (b : ModelAnswer). Both b (readOf r b)) (sym same)
-    (subst (λ (q : Scanned). Both (answerOf (q .fault) (q .place) (wholeOf q)) (readOf q (answerOf (q .fault) (q .place) (wholeOf q)))) (sym scan)
-    (answered words, index-of words)))
-  where
-    Both : ModelAnswer → ModelRead → Type 0
-    Both b q = ReadModel words (modelAnswer b) × IndexedWhere words q
+  -- ---- every pass
 
-    same : a ≡ answerOf (r .fault) (r .place) (wholeOf r)
-    same =
-        ends ∙ ap (answerOf (r .fault) (r .place))
-        (whole ∙ ap (λ (t : Bool). wholeAnswer m t (r .seen)) (test ∙ ap empty? zone)
-        ∙ ap (λ (n : Missing). wholeAnswer n (empty? (startSquare (r .seen .start) (r .zones))) (r .seen)) miss)
+  abbrev pass : Pass
+  pass = scanned words es zs
+
+  pub run-where : pass .fault ≡ fault.None → Run nothing 0 words
+  unfolding scanned
+  run-where none = run-of nothing (keep emptyIndex es zs) 0 words none
+
+  ended : Run nothing 0 words → pass ≡ passAt fault.None (length words) seen kept
+  unfolding scanned
+  ended run = end-of nothing (keep emptyIndex es zs) 0 words run ∙ rw (zero-add (length words))
+
+  -- the zone of the start valuations can be tightened
+  pub start-tightens : (q : Pass) {y z : Square} → q ≡ pass → q .fault ≡ fault.None →
+      y ≡ zoneAt (q .kept .zones) (q .seen .start) → z ≡ zoneAt (q .kept .zones) startBoundsAt → Tightens 1 (met y z)
+  start-tightens q same none first second =
+      let run : Run nothing 0 words = run-where (ap (λ (q : Pass). q .fault) (sym same) ∙ none) in
+      rw (first, second, same ∙ ended run) (tightens run)
+
+  -- the answer, by every check
+  pub answered : ReadModel words (modelAnswer (answerOf (pass .fault) (pass .place) (wholeOf words pass)))
+  unfolding modelChecks
+  answered = record { says = words-first words es zs (fileChecks words) (Right words) (wholeOf words pass) good }
+    where
+      good : pass .fault ≡ fault.None → First (fileChecks words) (Right words) (modelAnswer (wholeOf words pass))
+      good none =
+          let run : Run nothing 0 words = run-where none in
+          subst (λ (r : Pass). First (fileChecks words) (Right words) (modelAnswer (wholeOf words r))) (sym (ended run))
+          (whole-first words seen (missingOf seen words) _ (missing-is words) (place-end words run) (counts-end words run)
+          (present run) (absent run))
+
+  -- both promises of the call, from what the pass leaves
+  module _ (q : Pass) (r : ModelRead) (same : q ≡ pass) (index : r .index ≡ q .kept .index) where
+    abbrev Promises : Type 0
+    Promises = ReadModel words (modelAnswer (r .answer)) × IndexedWhere words r (q .kept .edges) (q .kept .zones)
+
+    returned :
+        r .answer ≡ answerOf (q .fault) (q .place) (wholeOf words q) →
+        (q .fault ≡ fault.None → r .initial ≡ startSquare (q .seen .start) (q .kept .zones)) → Promises
+    returned answer initial = (
+      rw (answer, same) answered,
+      record { accepted = λ counts h. accepted (accepted-only (q .fault) (q .place) (wholeOf words q) counts (sym answer ∙ h)) },
+    )
+      where
+        accepted : q .fault ≡ fault.None → KeptFor words r (q .kept .edges) (q .kept .zones)
+        accepted none =
+            let run : Run nothing 0 words = run-where (ap (λ (q : Pass). q .fault) (sym same) ∙ none) in
+            let end : q ≡ passAt fault.None (length words) seen kept = same ∙ ended run in
+            rw end
+            (kept-for run r (index ∙ ap (λ (q : Pass). q .kept .index) end)
+            (initial none ∙ ap (λ (q : Pass). startSquare (q .seen .start) (q .kept .zones)) end))
+
+    -- where it met a fault
+    pub fault-returned : (q .fault ≡ fault.None → ⊥) → r .answer ≡ faultAnswer (q .fault) (q .place) → Promises
+    unfolding answerOf
+    fault-returned faulty answer = returned (answer ∙ by (q .fault) faulty) (λ none. absurd (faulty none))
+      where
+        by : (f : Fault) → (f ≡ fault.None → ⊥) → faultAnswer f (q .place) ≡ answerOf f (q .place) (wholeOf words q)
+        by fault.None n = absurd (n refl)
+        by fault.Kind n = refl
+        by fault.Field n = refl
+        by fault.Limit n = refl
+        by fault.Weights n = refl
+
+    -- and where it met none
+    pub whole-returned : (y z : Square) (m : Missing) (e : Bool) → q .fault ≡ fault.None →
+        y ≡ zoneAt (q .kept .zones) (q .seen .start) → z ≡ zoneAt (q .kept .zones) startBoundsAt → r .initial ≡ tightened (met y z) →
+        m ≡ missingOf (q .seen) words → e ≡ empty? (r .initial) → r .answer ≡ wholeAnswer m e (q .seen) → Promises
+    unfolding answerOf startSquare
+    whole-returned y z m e none first second initial edges empty answer =
+        let start : r .initial ≡ startSquare (q .seen .start) (q .kept .zones) = initial ∙ rw (first, second) in
+        returned (answer ∙ rw (none, edges, empty, start)) (λ n. start)
+
+  -- the promise of what is kept, for what the call returns as the definitions compute it
+  pub index-of : IndexedWhere words (readOf words pass) (pass .kept .edges) (pass .kept .zones)
+  index-of = returned pass (readOf words pass) refl refl refl (λ none. refl) .1

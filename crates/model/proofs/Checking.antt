@@ -1,17 +1,16 @@
 -- The pass decides the checks 1 to 4. Assumes nothing.
-use Prim.Native.Nat.{ℕ, suc, _+_, _≤_}
+use Prim.Native.Nat.{ℕ, suc, _+_}
 use mathlib.Core.Path.{_≡_, refl, sym, ap, _∙_}
-use mathlib.Core.Logic.{_⊎_, inl, inr}
+use mathlib.Core.Logic.{_⊎_, inl, inr, _≢_}
 use mathlib.Core.Bool.{Bool, true, false, cond}
 use mathlib.Core.List.{List, [], _∷_, _++_}
 use native.Mathlib.Omega.{arith}
 use borrow.Author.Tests.{eqb-true, eq-eqb, ne-eqb}
 use lib.Dec.{eqb}
-use lib.ListN.{getD, length, replicate}
+use lib.IntN.{ℤ}
+use lib.ListN.{getD, length}
 use Rattle.zone.specs.Words.{kind}
 use Rattle.zone.specs.Checks.{Answer, Check, test, First}
-use Rattle.zone.specs.Squares.{universe}
-use Rattle.zone.specs.declared.zones.Zone.{Zone as Square}
 use Rattle.zone.proofs.Bools.{true-false, false-true}
 use Rattle.model.specs.Kinds.{Kind, none, head, location, action, edge, bound, start, number, is, kindOf}
 use Rattle.model.specs.Grammar.{follows?}
@@ -19,12 +18,10 @@ use Rattle.model.specs.Fields.{clocksOf, denominatorOf, weightOf, fields
 use Rattle.model.specs.Before.{openerFrom, countOf}
 use Rattle.model.specs.Reading.{lastEdges, weights, limit?, adds?, wordChecks, wordsChecks, modelAnswer}
 use Rattle.model.specs.Scan.{nothing, fieldsAt?, limitAt?, addsAt?, faultAt, lastFault, seenWithKind, seenWith}
-use Rattle.model.specs.Index.{unlessFault, scanFrom, scanned, emptyIndex, indexWith, zonesWith, answerOf}
+use Rattle.model.specs.Index.{Kept, keep, emptyIndex, keptWith, Pass, passAt, unlessFault, scanFrom, scanned, faultAnswer}
 use Rattle.model.specs.declared.seen.Seen.{Seen}
 use Rattle.model.specs.declared.seen.Fault.{Fault}
 use Rattle.model.specs.declared.seen.Fault.the-variants as fault
-use Rattle.model.specs.declared.index.Index.{Index}
-use Rattle.model.specs.declared.scan.Scanned.{Scanned}
 use Rattle.model.specs.declared.read.Counts.{Counts}
 use Rattle.model.specs.declared.read.ModelAnswer.{ModelAnswer}
 use Rattle.model.proofs.Run.{goes}
@@ -46,7 +43,7 @@ pub record Tallies (before : List ℕ) (s : Seen) : Type 0 where
 pub record Headed (C D : ℕ) (s : Seen) : Type 0 where
   pub clocks : s .clocks ≡ C
   pub denominator : s .denominator ≡ D
-  pub opened : 1 ≤ s .opener
+  pub opened : s .opener ≢ number none
 
 -- s is what the words before come to, in a file whose first word gives C and D
 pub record Agrees (C D : ℕ) (before : List ℕ) (s : Seen) : Type 0 where
@@ -114,7 +111,7 @@ begins C D before s n a f = by (a .headed)
     by (inl e) =
         let o : s .opener ≡ 0 = a .tallies .opener ∙ ap (openerFrom 0) e in here e o (eqb-true n 1 (sym same ∙ eq-eqb (s .opener) 0 o))
     by (inr h) =
-        let apart : eqb (s .opener) 0 ≡ false = ne-eqb (s .opener) 0 (λ e. omega arith) in
+        let apart : eqb (s .opener) 0 ≡ false = ne-eqb (s .opener) 0 (h .opened) in
         there h λ e. true-false (sym (eq-eqb n 1 e) ∙ sym same ∙ apart)
 
 tallies-kind : (k : Kind) (before : List ℕ) (s : Seen) (w p : ℕ) → Tallies before s → Passes k s w → Tallies (w ∷ before) (seenWithKind k s w p)
@@ -208,59 +205,63 @@ fault-is C D before s w a =
 -- ---- the pass
 
 -- the answer of a pass, if `whole` is that on the whole file
-abbrev answered : ModelAnswer → Scanned → Answer Counts
-answered whole r = modelAnswer (answerOf (r .fault) (r .place) whole)
+unfoldable pub answerOf : Fault → ℕ → ModelAnswer → ModelAnswer
+answerOf fault.None p whole = whole
+answerOf fault.Kind p whole = faultAnswer fault.Kind p
+answerOf fault.Field p whole = faultAnswer fault.Field p
+answerOf fault.Limit p whole = faultAnswer fault.Limit p
+answerOf fault.Weights p whole = faultAnswer fault.Weights p
 
-abbrev stopped : Seen → Index → List Square → ℕ → Fault → Scanned
-stopped s x zs p f = record { fault = f; place = p; seen = s; index = x; zones = zs }
+abbrev answered : ModelAnswer → Pass → Answer Counts
+answered whole r = modelAnswer (answerOf (r .fault) (r .place) whole)
 
 module _ (more : List Check) (P : Counts → Type 0) (whole : ModelAnswer) where
   -- at a word
   step-first :
-      (a b c d : Bool) (f : Fault) → f ≡ firstFault a b c d → (s : Seen) (x : Index) (zs : List Square) (p : ℕ) (go : Scanned) →
+      (a b c d : Bool) (f : Fault) → f ≡ firstFault a b c d → (s : Seen) (k : Kept) (p : ℕ) (go : Pass) →
       (f ≡ fault.None → First more P (answered whole go)) →
-      First (test 1 p a ∷ test 2 p b ∷ test 3 p c ∷ test 4 p d ∷ more) P (answered whole (unlessFault f (stopped s x zs p f) go))
-  unfolding unlessFault answerOf modelAnswer
-  step-first true true true true f e s x zs p go h = rw e (inl (tt, inl (tt, inl (tt, inl (tt, h e)))))
-  step-first true true true false f e s x zs p go h = rw e (inl (tt, inl (tt, inl (tt, inr (λ t. t, refl)))))
-  step-first true true false d f e s x zs p go h = rw e (inl (tt, inl (tt, inr (λ t. t, refl))))
-  step-first true false c d f e s x zs p go h = rw e (inl (tt, inr (λ t. t, refl)))
-  step-first false b c d f e s x zs p go h = rw e (inr (λ t. t, refl))
+      First (test 1 p a ∷ test 2 p b ∷ test 3 p c ∷ test 4 p d ∷ more) P (answered whole (unlessFault f (passAt f p s k) go))
+  unfolding unlessFault answerOf faultAnswer modelAnswer
+  step-first true true true true f e s k p go h = rw e (inl (tt, inl (tt, inl (tt, inl (tt, h e)))))
+  step-first true true true false f e s k p go h = rw e (inl (tt, inl (tt, inl (tt, inr (λ t. t, refl)))))
+  step-first true true false d f e s k p go h = rw e (inl (tt, inl (tt, inr (λ t. t, refl))))
+  step-first true false c d f e s k p go h = rw e (inl (tt, inr (λ t. t, refl)))
+  step-first false b c d f e s k p go h = rw e (inr (λ t. t, refl))
 
   -- at the end
   last-first :
       (c : Bool) (f : Fault) → f ≡ cond c fault.None fault.Kind → (p : ℕ) → (f ≡ fault.None → First more P (modelAnswer whole)) →
       First (test 1 p c ∷ more) P (modelAnswer (answerOf f p whole))
-  unfolding answerOf modelAnswer
+  unfolding answerOf faultAnswer modelAnswer
   last-first true f e p h = rw e (inl (tt, h e))
   last-first false f e p h = rw e (inr (λ t. t, refl))
 
 words-from :
-    (C D : ℕ) (before words : List ℕ) (s : Seen) (x : Index) (zs : List Square) → Agrees C D before s → Heads C D before (getD words 0 0) →
+    (C D : ℕ) (before words : List ℕ) (s : Seen) (k : Kept) → Agrees C D before s → Heads C D before (getD words 0 0) →
     (more : List Check) (P : Counts → Type 0) (whole : ModelAnswer) →
-    (scanFrom s x zs (length before) words .fault ≡ fault.None → First more P (modelAnswer whole)) →
-    First (wordsChecks C D before words ++ more) P (answered whole (scanFrom s x zs (length before) words))
+    (scanFrom s k (length before) words .fault ≡ fault.None → First more P (modelAnswer whole)) →
+    First (wordsChecks C D before words ++ more) P (answered whole (scanFrom s k (length before) words))
 unfolding scanFrom wordsChecks wordChecks lastFault
-words-from C D before [] s x zs a first more P whole h =
+words-from C D before [] s k a first more P whole h =
     last-first more P whole (eqb (openerFrom 0 before) 6) (lastFault s) (rw (a .tallies .opener)) (length before) h
-words-from C D before (w ∷ ws) s x zs a first more P whole h =
+words-from C D before (w ∷ ws) s k a first more P whole h =
     let p : ℕ = length before in
-    let go : Scanned = scanFrom (seenWith s w p) (indexWith s w p x) (zonesWith s w zs) (suc p) ws in
+    let go : Pass = scanFrom (seenWith s w p) (keptWith s w k) (suc p) ws in
     step-first (wordsChecks C D (w ∷ before) ws ++ more) P whole (kind? C D before w) (field? C D before w) (under? C D before w)
-    (sum? C D before w) (faultAt s w) (fault-is C D before s w a) s x zs p go λ f.
-    words-from C D (w ∷ before) ws (seenWith s w p) (indexWith s w p x) (zonesWith s w zs) (agrees-with C D before s w p a f first)
+    (sum? C D before w) (faultAt s w) (fault-is C D before s w a) s k p go λ f.
+    words-from C D (w ∷ before) ws (seenWith s w p) (keptWith s w k) (agrees-with C D before s w p a f first)
     (λ e. absurd (omega (arith, ap length e))) more P whole
-    λ g. h (ap (λ (r : Scanned). r .fault) (goes (faultAt s w) (stopped s x zs p (faultAt s w)) go f) ∙ g)
+    λ g. h (ap (λ (r : Pass). r .fault) (goes (faultAt s w) (passAt (faultAt s w) p s k) go f) ∙ g)
 
 -- the checks 1 to 4 of a file
 abbrev pub checksOf : List ℕ → List Check
 checksOf words = wordsChecks (clocksOf (getD words 0 0)) (denominatorOf (getD words 0 0)) [] words
 
 pub words-first :
-    (words : List ℕ) (more : List Check) (P : Counts → Type 0) (whole : ModelAnswer) →
-    (scanned words .fault ≡ fault.None → First more P (modelAnswer whole)) →
-    First (checksOf words ++ more) P (modelAnswer (answerOf (scanned words .fault) (scanned words .place) whole))
+    (words es : List ℕ) (zs : List ℤ) (more : List Check) (P : Counts → Type 0) (whole : ModelAnswer) →
+    (scanned words es zs .fault ≡ fault.None → First more P (modelAnswer whole)) →
+    First (checksOf words ++ more) P (modelAnswer (answerOf (scanned words es zs .fault) (scanned words es zs .place) whole))
 unfolding scanned
-words-first words =
-    words-from (clocksOf (getD words 0 0)) (denominatorOf (getD words 0 0)) [] words nothing emptyIndex (replicate 49 universe)
-    (agrees-nothing _ _) (λ e. (refl, refl))
+words-first words es zs =
+    words-from (clocksOf (getD words 0 0)) (denominatorOf (getD words 0 0)) [] words nothing (keep emptyIndex es zs) (agrees-nothing _ _)
+    (λ e. (refl, refl))

@@ -1,17 +1,17 @@
 -- Laws of the kinds of words, and of what may follow what. Assumes nothing.
-use Prim.Native.Nat.{ℕ, _≤_, _<_}
-use mathlib.Core.Path.{_≡_, refl, _∙_}
+use Prim.Native.Nat.{ℕ, _<_}
+use mathlib.Core.Path.{_≡_, refl, sym, _∙_}
 use mathlib.Core.Bool.{Bool, true, false, not, cond, _&&_, _||_}
 use mathlib.Core.List.{List, [], _∷_}
-use native.Mathlib.Omega.{arith}
-use borrow.Author.Tests.{eqb-true}
-use lib.Dec.{T, eqb, leb, leb→le, eqb→eq}
+use borrow.Author.Tests.{eqb-true, ltb-true}
+use lib.Dec.{T, eqb, ltb, eqb→eq}
 use lib.ListN.{getD}
 use Rattle.zone.specs.Words.{kind}
 use Rattle.zone.proofs.Bools.{false-true, both, is-true, left-true, right-true}
 use Rattle.model.specs.Kinds.{Kind, none, head, location, action, edge, bound, start, number, kinds, among, kindOf}
 use Rattle.model.specs.TableKinds.{tableNumber, tableKinds}
 use Rattle.model.specs.Grammar.{follows, tableFollows, numbered?, mayFollow?, follows?, tableFollows?}
+use Rattle.model.specs.Openers.{openers, opener?, tableOpeners, tableOpener?, edgeMayFollow?}
 use Rattle.model.proofs.TableRule.{same?, same, keeps?, keeps}
 
 -- a word with the number of a kind is of that kind
@@ -67,85 +67,106 @@ abbrev pub each? : {K : Type 0} → (K → Bool) → List K → Bool
 each? P [] = true
 each? P (k ∷ ks) = P k && each? P ks
 
-module _ {K : Type 0} (numberOf : K → ℕ) (after : K → List K) where
-  each-numbered : (P : ℕ → Bool) (ks : List K) (n : ℕ) → T (each? (λ k. P (numberOf k)) ks) → numbered? numberOf n ks ≡ true → T (P n)
+module _ {K : Type 0} (numberOf : K → ℕ) where
+  -- what holds of the number of a kind in a list, by a test that passes for each
+  pub each-numbered : (P : ℕ → Bool) (ks : List K) (n : ℕ) → T (each? (λ k. P (numberOf k)) ks) → numbered? numberOf n ks ≡ true → T (P n)
   unfolding numbered?
   each-numbered P [] n t h = false-true h
   each-numbered P (k ∷ ks) n t h =
       let ts = both (P (numberOf k)) (each? (λ k. P (numberOf k)) ks) t in
       either (eqb n (numberOf k)) (numbered? numberOf n ks) (λ e. rw (eqb-true n (numberOf k) e) (ts .0)) (each-numbered P ks n (ts .1)) h
 
-  -- a test of a kind with each that may follow it
-  abbrev pub row? : (ℕ → ℕ → Bool) → K → Bool
-  row? P k = each? (λ j. P (numberOf k) (numberOf j)) (after k)
+  module _ (after : K → List K) where
+    -- a test of a kind with each that may follow it
+    abbrev pub row? : (ℕ → ℕ → Bool) → K → Bool
+    row? P k = each? (λ j. P (numberOf k) (numberOf j)) (after k)
 
-  -- what the table says of an opener o and a kind n, by a test that passes for each two kinds of which one may follow the other
-  pub each-row : (P : ℕ → ℕ → Bool) (ks : List K) (o n : ℕ) → T (each? (row? P) ks) → mayFollow? numberOf after ks o n ≡ true → T (P o n)
-  unfolding mayFollow?
-  each-row P [] o n t h = false-true h
-  each-row P (k ∷ ks) o n t h =
-      let ts = both (row? P k) (each? (row? P) ks) t in
-      either (eqb o (numberOf k) && numbered? numberOf n (after k)) (mayFollow? numberOf after ks o n)
-      (λ e.
-      rw (eqb-true o (numberOf k) (left-true _ _ e))
-      (each-numbered (P (numberOf k)) (after k) n (ts .0) (right-true (eqb o (numberOf k)) _ e)))
-      (each-row P ks o n (ts .1)) h
+    -- what the table says of an opener o and a kind n, by a test that passes for each two kinds of which one may follow the other
+    pub each-row : (P : ℕ → ℕ → Bool) (ks : List K) (o n : ℕ) → T (each? (row? P) ks) → mayFollow? numberOf after ks o n ≡ true → T (P o n)
+    unfolding mayFollow?
+    each-row P [] o n t h = false-true h
+    each-row P (k ∷ ks) o n t h =
+        let ts = both (row? P k) (each? (row? P) ks) t in
+        either (eqb o (numberOf k) && numbered? numberOf n (after k)) (mayFollow? numberOf after ks o n)
+        (λ e.
+        rw (eqb-true o (numberOf k) (left-true _ _ e))
+        (each-numbered (P (numberOf k)) (after k) n (ts .0) (right-true (eqb o (numberOf k)) _ e)))
+        (each-row P ks o n (ts .1)) h
 
 table : (P : ℕ → ℕ → Bool) → T (each? (row? number follows P) kinds) → (o n : ℕ) → follows? o n ≡ true → T (P o n)
 unfolding follows?
 table P t o n h = each-row number follows P kinds o n t h
 
--- ---- one table for both files: the openers of a model are numbered up to 6, those of a table from 7 on
-apart : (a b : Bool) → (b ≡ true → ⊥) → (a || b) ≡ a
-apart true b h = refl
-apart false true h = absurd (h refl)
-apart false false h = refl
+-- ---- one table for both files: behind an opener of one file, the other file allows nothing that this one does not
+left-of : (a b : Bool) → (b ≡ true → a ≡ true) → (a || b) ≡ a
+left-of true b h = refl
+left-of false true h = sym (h refl)
+left-of false false h = refl
 
-model-follows : (o n : ℕ) → o ≤ 6 → (follows? o n || tableFollows? o n) ≡ follows? o n
-unfolding tableFollows? tableFollows
-model-follows o n h =
-    apart (follows? o n) (tableFollows? o n)
-    (λ t. later (leb→le 7 o (each-row tableNumber tableFollows (λ o n. leb 7 o) tableKinds o n tt t)))
+right-of : (a b : Bool) → (a ≡ true → b ≡ true) → (a || b) ≡ b
+right-of true b h = sym (h refl)
+right-of false b h = refl
+
+model-follows : (o n : ℕ) → opener? o ≡ true → (follows? o n || tableFollows? o n) ≡ follows? o n
+unfolding follows tableFollows numbered? mayFollow? follows? tableFollows?
+model-follows o n h = left-of (follows? o n) (tableFollows? o n) too
   where
-    later : 7 ≤ o → ⊥
-    later l = omega arith
+    allowed? : ℕ → ℕ → Bool
+    allowed? o n = not (opener? o) || follows? o n
 
-table-follows : (o n : ℕ) → 7 ≤ o → (follows? o n || tableFollows? o n) ≡ tableFollows? o n
-unfolding follows
-table-follows o n h = by (follows? o n) (λ t. earlier (leb→le o 6 (table (λ o n. leb o 6) tt o n t)))
+    too : tableFollows? o n ≡ true → follows? o n ≡ true
+    too t = rw h at (is-true (allowed? o n) (each-row tableNumber tableFollows allowed? tableKinds o n tt t))
+
+table-follows : (o n : ℕ) → tableOpener? o ≡ true → (follows? o n || tableFollows? o n) ≡ tableFollows? o n
+unfolding follows tableFollows numbered? mayFollow? follows? tableFollows?
+table-follows o n h = right-of (follows? o n) (tableFollows? o n) too
   where
-    earlier : o ≤ 6 → ⊥
-    earlier l = omega arith
+    allowed? : ℕ → ℕ → Bool
+    allowed? o n = not (tableOpener? o) || tableFollows? o n
 
-    by : (a : Bool) → (a ≡ true → ⊥) → (a || tableFollows? o n) ≡ tableFollows? o n
-    by true f = absurd (f refl)
-    by false f = refl
+    too : follows? o n ≡ true → tableFollows? o n ≡ true
+    too t = rw h at (is-true (allowed? o n) (table allowed? tt o n t))
 
 -- ---- the constant table: rows that keep the rule of both files, at every entry
 pub record FollowsTable (rows : List (List Bool)) : Type 0 where
   pub rule : keeps? (λ o n. follows? o n || tableFollows? o n) 17 16 rows ≡ true
 
+-- it has a row for each opener
+pub opener-row : (o : ℕ) → opener? o ≡ true → o < 17
+opener-row o h = ltb-true o 17 (is-true _ (each-numbered number (λ o. ltb o 17) openers o tt h))
+
+pub table-opener-row : (o : ℕ) → tableOpener? o ≡ true → o < 17
+table-opener-row o h = ltb-true o 17 (is-true _ (each-numbered tableNumber (λ o. ltb o 17) tableOpeners o tt h))
+
 -- what it says of a kind behind an opener of a model, and behind one of a table
-module _ {rows : List (List Bool)} (t : FollowsTable rows) {o n : ℕ} (k : n < 16) where
-  looked-up : o ≤ 16 → getD (getD rows o []) n false ≡ (follows? o n || tableFollows? o n)
-  looked-up h = keeps (λ o n. follows? o n || tableFollows? o n) 17 16 rows (t .rule) o n (omega arith) k
+module _ {rows : List (List Bool)} (t : FollowsTable rows) (o : ℕ) {n : ℕ} (k : n < 16) where
+  looked-up : o < 17 → getD (getD rows o []) n false ≡ (follows? o n || tableFollows? o n)
+  looked-up h = keeps (λ o n. follows? o n || tableFollows? o n) 17 16 rows (t .rule) o n h k
 
-  pub model-looked-up : o ≤ 6 → getD (getD rows o []) n false ≡ follows? o n
-  model-looked-up h = looked-up (omega arith) ∙ model-follows o n h
+  pub model-looked-up : opener? o ≡ true → getD (getD rows o []) n false ≡ follows? o n
+  model-looked-up h = looked-up (opener-row o h) ∙ model-follows o n h
 
-  pub table-looked-up : (7 ≤ o) × (o ≤ 16) → getD (getD rows o []) n false ≡ tableFollows? o n
-  table-looked-up h = looked-up (h .1) ∙ table-follows o n (h .0)
+  pub table-looked-up : tableOpener? o ≡ true → getD (getD rows o []) n false ≡ tableFollows? o n
+  table-looked-up h = looked-up (table-opener-row o h) ∙ table-follows o n h
 
 -- a head stands first, and nothing else does
 pub head-first : (o n : ℕ) → follows? o n ≡ true → eqb o 0 ≡ eqb n 1
 unfolding follows
 head-first o n h = same (eqb o 0) (eqb n 1) (is-true _ (table (λ o n. same? (eqb o 0) (eqb n 1)) tt o n h))
 
--- an edge follows an action or an edge
-pub before-edge : (o : ℕ) → follows? o 4 ≡ true → (3 ≤ o) × (o ≤ 4)
-unfolding follows
-before-edge o h =
-    let ts = both (leb 3 o) (leb o 4) (table (λ o n. not (eqb n 4) || (leb 3 o && leb o 4)) tt o 4 h) in (leb→le 3 o (ts .0), leb→le o 4 (ts .1))
+-- behind what an edge follows, an edge may follow
+pub before-edge : (o : ℕ) → follows? o (number edge) ≡ true → edgeMayFollow? o ≡ true
+unfolding follows numbered?
+before-edge o h = is-true _ (table (λ o n. not (eqb n (number edge)) || edgeMayFollow? o) tt o (number edge) h)
+
+-- behind an action come its bounds and edges alone, so another word where an edge may follow stands behind an edge
+pub behind-edges : (o n : ℕ) → follows? o n ≡ true → edgeMayFollow? o ≡ true → eqb n (number edge) ≡ false → eqb n (number bound) ≡ false →
+    o ≡ number edge
+unfolding follows numbered?
+behind-edges o n h m e b = eqb-true o (number edge) (rw (m, e, b) at (is-true (last? o n) (table last? tt o n h)))
+  where
+    last? : ℕ → ℕ → Bool
+    last? o n = not (edgeMayFollow? o) || eqb n (number edge) || eqb n (number bound) || eqb o (number edge)
 
 -- a bound follows no edge
 pub before-bound : (o : ℕ) → follows? o 5 ≡ true → o ≡ 4 → ⊥

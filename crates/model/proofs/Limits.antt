@@ -1,29 +1,27 @@
 -- What holds of the words read so far while no check has failed. Assumes nothing.
-use Prim.Native.Nat.{ℕ, suc, _+_, _*_, _≤_, _<_}
+use Prim.Native.Nat.{ℕ, suc, _+_, _*_, _^_, _≤_, _<_}
 use mathlib.Core.Path.{_≡_, refl, ap, subst}
 use mathlib.Core.Bool.{Bool, true, false, cond, _&&_}
 use mathlib.Core.List.{List, [], _∷_}
 use native.Mathlib.Omega.{arith}
 use borrow.Author.Tests.{ltb-true, leb-true, eqb-true}
 use lib.Dec.{eqb, leb}
-use lib.ListN.{replicate}
+use lib.IntN.{ℤ}
 use Rattle.zone.specs.Words.{bits, kind, boundOf, goodBound?}
 use Rattle.zone.specs.Questions.{clocks?}
-use Rattle.zone.specs.Squares.{universe}
-use Rattle.zone.specs.declared.zones.Zone.{Zone as Square}
 use Rattle.zone.proofs.Bools.{false-true, left-true, right-true}
 use Rattle.zone.proofs.WordLaws.{good-first, good-second}
 use Rattle.model.specs.Kinds.{Kind, none, head, location, action, edge, bound, start, number, is, kindOf}
-use Rattle.model.specs.Grammar.{follows?}
+use Rattle.model.specs.Grammar.{numbered?, follows?}
 use Rattle.model.specs.Fields.{clocksOf, denominatorOf, headFields?, fields?}
 use Rattle.model.specs.Reading.{limit?}
-use Rattle.model.specs.Scan.{nothing, fieldsAt?, limitAt?, addsAt?, faultAt, seenWithKind, seenWith, WithinLimits}
-use Rattle.model.specs.Index.{scanFrom, scanned, emptyIndex, indexWith, zonesWith}
+use Rattle.model.specs.Openers.{opener?, edgeMayFollow?}
+use Rattle.model.specs.Scan.{nothing, fieldsAt?, limitAt?, addsAt?, faultAt, zoneCount}
+use Rattle.model.specs.Scan.{withHead, withLocation, withAction, withEdge, withStart, seenWithKind, seenWith, WithinLimits}
+use Rattle.model.specs.Index.{Kept, keep, emptyIndex, keptWith, Pass, scanFrom, scanned}
 use Rattle.model.specs.declared.seen.Seen.{Seen}
 use Rattle.model.specs.declared.seen.Fault.{Fault}
 use Rattle.model.specs.declared.seen.Fault.the-variants as fault
-use Rattle.model.specs.declared.index.Index.{Index}
-use Rattle.model.specs.declared.scan.Scanned.{Scanned}
 use Rattle.model.proofs.Run.{unless}
 use Rattle.model.proofs.KindLaws.{kind-is, by-kind, before-edge}
 
@@ -73,8 +71,7 @@ passes-as k s w e h = subst (λ (k : Kind). Passes k s w) (kind-is k w e) (passe
 edge-room : (s : Seen) (w : ℕ) → WithinLimits s → Passes edge s w → (s .run < 4) × (s .edges + 4 ≤ 4 * s .actions + s .run)
 unfolding limit?
 edge-room s w h g =
-    let behind = before-edge (s .opener) (g .follows) in
-    (ltb-true _ _ (g .limit), h .room (behind .0) (behind .1))
+    (ltb-true _ _ (g .limit), h .room (before-edge (s .opener) (g .follows)))
 
 pub head-ranges : (w : ℕ) → headFields? w ≡ true → (1 ≤ clocksOf w) × (clocksOf w ≤ 4) × (1 ≤ denominatorOf w)
 head-ranges w h =
@@ -85,33 +82,56 @@ head-ranges w h =
       leb-true 1 (denominatorOf w) (right-true (eqb (bits 27 24 w) 1 && clocks? (clocksOf w) && eqb (bits 19 16 w) 0) _ h),
     )
 
+-- the limits, from what the opener says and from the numbers
+limits :
+    (s : Seen) → opener? (s .opener) ≡ true → (edgeMayFollow? (s .opener) ≡ true → s .edges + 4 ≤ 4 * s .actions + s .run) →
+    (s .clocks ≤ 4) × (s .denominator < 2 ^ 16) × (s .locations ≤ 16) × (s .actions ≤ 32) × (s .edges ≤ 4 * s .actions) × (s .run ≤ 4)
+    × (s .weights ≤ s .run * 2 ^ 16) × (s .slot < zoneCount) × (s .start < 16) → WithinLimits s
+limits s o r n =
+    record {
+      opener = o;
+      clocks = n .0;
+      denominator = n .1;
+      locations = n .2;
+      actions = n .3;
+      edges = n .4;
+      run = n .5;
+      room = r;
+      weights = n .6;
+      slot = n .7;
+      start = n .8;
+    }
+
 limits-kind : (k : Kind) (s : Seen) (w p : ℕ) → WithinLimits s → Passes k s w → WithinLimits (seenWithKind k s w p)
-unfolding fields? limit? seenWithKind
+unfolding fields? limit? seenWithKind numbered?
 limits-kind none s w p h g = false-true (g .fields)
-limits-kind head s w p h g = let few = head-ranges w (g .fields) in omega arith
-limits-kind location s w p h g = let few : s .locations < 16 = ltb-true _ _ (g .limit) in omega arith
-limits-kind action s w p h g = let few : s .actions < 32 = ltb-true _ _ (g .limit) in omega arith
-limits-kind edge s w p h g = let room = edge-room s w h g in omega arith
+limits-kind head s w p h g = let few = head-ranges w (g .fields) in limits (withHead s w) refl (λ e. false-true e) (omega arith)
+limits-kind location s w p h g =
+    let few : s .locations < 16 = ltb-true _ _ (g .limit) in limits (withLocation s) refl (λ e. false-true e) (omega arith)
+limits-kind action s w p h g =
+    let few : s .actions < 32 = ltb-true _ _ (g .limit) in limits (withAction s) refl (λ e. omega arith) (omega arith)
+limits-kind edge s w p h g = let room = edge-room s w h g in limits (withEdge s w) refl (λ e. omega arith) (omega arith)
 limits-kind bound s w p h g = h
-limits-kind start s w p h g = omega arith
+limits-kind start s w p h g = limits (withStart s w p) refl (λ e. false-true e) (omega arith)
 
 pub limits-nothing : WithinLimits nothing
-limits-nothing = omega arith
+unfolding numbered?
+limits-nothing = limits nothing refl (λ e. false-true e) (omega arith)
 
 pub limits-with : (s : Seen) (w p : ℕ) → WithinLimits s → faultAt s w ≡ fault.None → WithinLimits (seenWith s w p)
 unfolding seenWith
 limits-with s w p h f = limits-kind (kindOf w) s w p h (passes s w f)
 
-limits-from : (s : Seen) (x : Index) (zs : List Square) (p : ℕ) (ws : List ℕ) → WithinLimits s → WithinLimits (scanFrom s x zs p ws .seen)
+limits-from : (s : Seen) (k : Kept) (p : ℕ) (ws : List ℕ) → WithinLimits s → WithinLimits (scanFrom s k p ws .seen)
 unfolding scanFrom
-limits-from s x zs p [] h = h
-limits-from s x zs p (w ∷ ws) h =
-    unless (λ (r : Scanned). WithinLimits (r .seen)) (faultAt s w) _ _ h
-    λ f. limits-from (seenWith s w p) (indexWith s w p x) (zonesWith s w zs) (suc p) ws (limits-with s w p h f)
+limits-from s k p [] h = h
+limits-from s k p (w ∷ ws) h =
+    unless (λ (r : Pass). WithinLimits (r .seen)) (faultAt s w) _ _ h
+    λ f. limits-from (seenWith s w p) (keptWith s w k) (suc p) ws (limits-with s w p h f)
 
-pub limits-scanned : (words : List ℕ) → WithinLimits (scanned words .seen)
+pub limits-scanned : (words es : List ℕ) (zs : List ℤ) → WithinLimits (scanned words es zs .seen)
 unfolding scanned
-limits-scanned words = limits-from nothing emptyIndex (replicate 49 universe) 0 words limits-nothing
+limits-scanned words es zs = limits-from nothing (keep emptyIndex es zs) 0 words limits-nothing
 
 -- ---- what a word that fails no check says
 module _ (s : Seen) (w : ℕ) (h : WithinLimits s) (f : faultAt s w ≡ fault.None) where
@@ -133,7 +153,7 @@ module _ (s : Seen) (w : ℕ) (h : WithinLimits s) (f : faultAt s w ≡ fault.No
   good-bound e = rw e (left-true _ _ (passes-as bound s w (eqb-true _ _ e) f .fields))
 
   -- and its cell is one of the table's
-  pub bound-cell : is bound w ≡ true → boundOf w .i * 5 + boundOf w .j < 25
+  pub bound-cell : is bound w ≡ true → (boundOf w .i < 5) × (boundOf w .j < 5)
   bound-cell e =
       let first = good-first (s .clocks) w (good-bound e) in
       let second = good-second (s .clocks) w (good-bound e) in

@@ -4,14 +4,16 @@ use mathlib.Core.Path.{_≡_, refl, subst}
 use mathlib.Core.Bool.{true, false}
 use mathlib.Core.List.{List}
 use native.Mathlib.Omega.{arith}
-use lib.ListN.{getD, length}
+use lib.IntN.{ℤ}
+use lib.ListN.{length}
 use Rattle.zone.specs.Scale.{Region, within}
 use Rattle.zone.specs.Squares.{universe, met, empty?, Tightens}
-use Rattle.zone.specs.declared.zones.Zone.{Zone as Square}
+use Rattle.zone.specs.Stores.{zoneAt}
 use Rattle.zone.proofs.Sizes.{small-met, tightens-fewer}
 use Rattle.zone.proofs.Regions.{Stands, inBoth, Some, some, stands-met, empty-yes}
 use Rattle.model.specs.Model.{Model}
 use Rattle.model.specs.States.{locationAt, HasStart}
+use Rattle.model.specs.Scan.{startBoundsAt}
 use Rattle.model.specs.Index.{startSquare}
 use Rattle.model.specs.Indexed.{withBounds}
 use Rattle.model.proofs.ZoneLaws.{stands-bounds, tightens-bounds}
@@ -22,17 +24,17 @@ abbrev pub startRegion : Model → Region
 startRegion M = inBoth (within (locationAt M (M .start) .invariant)) (within (M .startBounds))
 
 module _
-    (M : Model) (zs : List Square) (good : GoodModel M)
-    (invariant : getD zs (M .start) universe ≡ withBounds (locationAt M (M .start) .invariant) universe)
-    (startBounds : getD zs 48 universe ≡ withBounds (M .startBounds) universe)
+    (M : Model) (zs : List ℤ) (good : GoodModel M)
+    (invariant : zoneAt zs (M .start) ≡ withBounds (locationAt M (M .start) .invariant) universe)
+    (startBounds : zoneAt zs startBoundsAt ≡ withBounds (M .startBounds) universe)
   where
-    pub start-met : Stands (startRegion M) (met (getD zs (M .start) universe) (getD zs 48 universe))
+    pub start-met : Stands (startRegion M) (met (zoneAt zs (M .start)) (zoneAt zs startBoundsAt))
     start-met =
         rw (invariant, startBounds)
         (stands-met (stands-bounds (locationAt M (M .start) .invariant) (good .invariants (M .start)))
         (stands-bounds (M .startBounds) (good .startBounds)))
 
-    pub start-fits : Tightens 1 (met (getD zs (M .start) universe) (getD zs 48 universe))
+    pub start-fits : Tightens 1 (met (zoneAt zs (M .start)) (zoneAt zs startBoundsAt))
     start-fits =
         rw (invariant, startBounds)
         (tightens-fewer 1 3 _ (omega arith) (small-met _ (tightens-bounds (locationAt M (M .start) .invariant) (good .invariants (M .start)))

@@ -5,8 +5,8 @@ use mathlib.Core.Logic.{_≢_}
 use mathlib.Core.Bool.{true, false}
 use mathlib.Core.List.{List, [], _∷_}
 use native.Mathlib.Omega.{arith}
-use borrow.Author.Tests.{eqb-true}
-use Rattle.zone.specs.Words.{kind}
+use borrow.Author.Tests.{eqb-true, eq-eqb}
+use Rattle.zone.specs.Words.{kind, boundOf}
 use Rattle.zone.proofs.Bools.{false-true}
 use Rattle.model.specs.Kinds.{Kind, none, head, location, action, edge, bound, start, number, kindOf}
 use Rattle.model.specs.Grammar.{follows, numbered?, mayFollow?, follows?}
@@ -18,26 +18,26 @@ use Rattle.model.specs.declared.seen.Fault.the-variants as fault
 use Rattle.model.proofs.Counts.{ends}
 use Rattle.model.proofs.KindLaws.{head-first}
 use Rattle.model.proofs.Run.{Run, seenEnd}
-use Rattle.model.proofs.Limits.{Passes, passes, limits-with, room-location, room-action, room-edge}
+use Rattle.model.proofs.Limits.{Passes, passes, limits-with, room-location, room-action, room-edge, bound-cell}
 
 -- a bound may follow what was seen
 abbrev pub Bounded : Seen → Type 0
 Bounded s = follows? (s .opener) (number bound) ≡ true
 
--- what a word without a fault says of what was seen before it, by its kind; opener 0 is none, 2 a location, 4 an edge, 6 the start
-pub data Step (s : Seen) : Kind → Type 0 where
-  a-head : s .opener ≡ 0 → Step s head
-  a-location : s .opener ≢ 6 → s .locations < 16 → Step s location
-  an-action : s .opener ≢ 6 → s .actions < 32 → Step s action
-  an-edge : s .opener ≢ 6 → s .opener ≢ 2 → s .edges < 128 → Step s edge
-  a-bound : Bounded s → Step s bound
-  a-start : s .opener ≢ 6 → Step s start
+-- what a word w without a fault says of what was seen before it, by its kind; opener 0 is none, 2 a location, 4 an edge, 6 the start
+pub data Step (s : Seen) (w : ℕ) : Kind → Type 0 where
+  a-head : s .opener ≡ 0 → Step s w head
+  a-location : s .opener ≢ 6 → s .locations < 16 → Step s w location
+  an-action : s .opener ≢ 6 → s .actions < 32 → Step s w action
+  an-edge : s .opener ≢ 6 → s .opener ≢ 2 → s .edges < 128 → Step s w edge
+  a-bound : Bounded s → boundOf w .i < 5 → boundOf w .j < 5 → Step s w bound
+  a-start : s .opener ≢ 6 → Step s w start
 
 -- an opener behind which a kind may not stand
 pub never : (o n m : ℕ) → follows? o n ≡ true → follows? m n ≡ false → o ≢ m
 never o n m h e q = false-true (sym e ∙ ap (λ (o : ℕ). follows? o n) (sym q) ∙ h)
 
-step-of : (k : Kind) (s : Seen) (w : ℕ) → WithinLimits s → faultAt s w ≡ fault.None → Passes k s w → Step s k
+step-of : (k : Kind) (s : Seen) (w : ℕ) → WithinLimits s → faultAt s w ≡ fault.None → Passes k s w → Step s w k
 unfolding fields? follows? mayFollow? numbered? follows
 step-of none s w h f g = false-true (g .fields)
 step-of head s w h f g = a-head (eqb-true (s .opener) 0 (head-first (s .opener) 1 (g .follows)))
@@ -45,13 +45,13 @@ step-of location s w h f g = a-location (never (s .opener) 2 6 (g .follows) refl
 step-of action s w h f g = an-action (never (s .opener) 3 6 (g .follows) refl) (room-action s w h f (g .named))
 step-of edge s w h f g =
     an-edge (never (s .opener) 4 6 (g .follows) refl) (never (s .opener) 4 2 (g .follows) refl) (room-edge s w h f (g .named))
-step-of bound s w h f g = a-bound (g .follows)
+step-of bound s w h f g = let cell = bound-cell s w h f (eq-eqb (kind w) 5 (g .named)) in a-bound (g .follows) (cell .0) (cell .1)
 step-of start s w h f g = a-start (never (s .opener) 6 6 (g .follows) refl)
 
 -- no word fails a check, and none is missing at the end; what was seen is within the limits all along
 abbrev pub Walk : Seen → ℕ → List ℕ → Type 0
 Walk s p [] = WithinLimits s × (s .opener ≡ 6)
-Walk s p (w ∷ ws) = WithinLimits s × (kind w ≡ number (kindOf w)) × Step s (kindOf w) × Walk (seenWith s w p) (suc p) ws
+Walk s p (w ∷ ws) = WithinLimits s × (kind w ≡ number (kindOf w)) × Step s w (kindOf w) × Walk (seenWith s w p) (suc p) ws
 
 pub walk-of : (s : Seen) (p : ℕ) (ws : List ℕ) → WithinLimits s → Run s p ws → Walk s p ws
 walk-of s p [] h r = (h, ends s r)
@@ -67,22 +67,22 @@ limits-end s p (w ∷ ws) r = limits-end (seenWith s w p) (suc p) ws (r .3)
 -- ---- what follows an opener
 
 module _ (s : Seen) (w p : ℕ) where
-  no-bound : (k : Kind) (P : Parts) → s .opener ≡ 4 → Step s k → (seenWithKind k s w p .opener ≡ 4 → P .bounds ≡ []) → partsWith k w P .bounds ≡ []
+  no-bound : (k : Kind) (P : Parts) → s .opener ≡ 4 → Step s w k → (seenWithKind k s w p .opener ≡ 4 → P .bounds ≡ []) → partsWith k w P .bounds ≡ []
   unfolding follows? mayFollow? numbered? follows seenWithKind partsWith
   no-bound head P e (a-head z) ih = absurd (omega arith)
   no-bound location P e (a-location n l) ih = refl
   no-bound action P e (an-action n l) ih = refl
   no-bound edge P e (an-edge n m l) ih = ih refl
-  no-bound bound P e (a-bound b) ih = absurd (never (s .opener) 5 4 b refl e)
+  no-bound bound P e (a-bound b i j) ih = absurd (never (s .opener) 5 4 b refl e)
   no-bound start P e (a-start n) ih = refl
 
-  no-edge : (k : Kind) (P : Parts) → s .opener ≡ 2 → Step s k → (seenWithKind k s w p .opener ≡ 2 → P .edges ≡ []) → partsWith k w P .edges ≡ []
+  no-edge : (k : Kind) (P : Parts) → s .opener ≡ 2 → Step s w k → (seenWithKind k s w p .opener ≡ 2 → P .edges ≡ []) → partsWith k w P .edges ≡ []
   unfolding seenWithKind partsWith
   no-edge head P e (a-head z) ih = absurd (omega arith)
   no-edge location P e (a-location n l) ih = refl
   no-edge action P e (an-action n l) ih = refl
   no-edge edge P e (an-edge n m l) ih = absurd (m e)
-  no-edge bound P e (a-bound b) ih = ih e
+  no-edge bound P e (a-bound b i j) ih = ih e
   no-edge start P e (a-start n) ih = refl
 
 -- an edge is not followed by bounds before the next opener
@@ -105,14 +105,14 @@ pub record Last (P : Parts) (s end : Seen) : Type 0 where
   pub start : end .start ≡ s .start
 
 last-with :
-    (s end : Seen) (w p : ℕ) (k : Kind) (P : Parts) → s .opener ≡ 6 → Step s k →
+    (s end : Seen) (w p : ℕ) (k : Kind) (P : Parts) → s .opener ≡ 6 → Step s w k →
     (seenWithKind k s w p .opener ≡ 6 → Last P (seenWithKind k s w p) end) → Last (partsWith k w P) s end
 unfolding seenWithKind partsWith
 last-with s end w p head P e (a-head z) ih = absurd (omega arith)
 last-with s end w p location P e (a-location n l) ih = absurd (n e)
 last-with s end w p action P e (an-action n l) ih = absurd (n e)
 last-with s end w p edge P e (an-edge n m l) ih = absurd (n e)
-last-with s end w p bound P e (a-bound b) ih =
+last-with s end w p bound P e (a-bound b i j) ih =
     let r = ih e in
     record { edges = r .edges; actions = r .actions; locations = r .locations; start = r .start }
 last-with s end w p start P e (a-start n) ih = absurd (n e)

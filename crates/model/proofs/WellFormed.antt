@@ -7,36 +7,35 @@ use native.Mathlib.Nat.{div-lt-iff-lt-mul}
 use native.Mathlib.Omega.{arith}
 use borrow.Author.Tests.{eqb-true, leb-true, ltb-true}
 use lib.Dec.{T, eqb, leb, ltb}
-use lib.ListN.{getD, length, replicate}
+use lib.ListN.{getD, length}
 use lib.Pow.{pow-pos}
 use Rattle.zone.specs.Words.{bits, kind}
 use Rattle.zone.specs.Checks.{accepted}
-use Rattle.zone.specs.Squares.{universe}
 use Rattle.zone.proofs.Bools.{false-true, is-true, left-true, right-true}
 use Rattle.zone.proofs.CheckLaws.{AllHold, first-accepted}
 use Rattle.model.specs.Kinds.{Kind, none, head, location, action, edge, bound, start, number, is, kindOf}
-use Rattle.model.specs.Grammar.{follows, numbered?, mayFollow?, follows?}
+use Rattle.model.specs.Grammar.{numbered?}
 use Rattle.model.specs.Fields.{clocksOf, denominatorOf, maskOf, landsAt, weightOf, headFields?, fields?}
 use Rattle.model.specs.Model.{Edge, Action, Model, Parts, edgeOf, partsWith, partsOf, modelOf}
 use Rattle.model.specs.States.{locationAt}
 use Rattle.model.specs.Before.{countOf}
 use Rattle.model.specs.Reading.{adds?, edgeChecks, modelChecks, countsOf, ReadModel, modelAnswer}
+use Rattle.model.specs.Openers.{edgeMayFollow?}
 use Rattle.model.specs.Scan.{nothing, addsAt?, seenWith, seenWithKind, WithinLimits}
-use Rattle.model.specs.Index.{emptyIndex, scanned}
+use Rattle.model.specs.Index.{emptyIndex, keep, scanned}
 use Rattle.model.specs.declared.seen.Seen.{Seen}
 use Rattle.model.specs.declared.read.Counts.{Counts}
 use Rattle.model.specs.declared.read.ModelAnswer.the-variants as answer
-use Rattle.model.proofs.KindLaws.{head-first}
-use Rattle.model.proofs.Run.{Run, run-of}
+use Rattle.model.proofs.KindLaws.{head-first, behind-edges}
+use Rattle.model.proofs.Run.{Run}
 use Rattle.model.proofs.Limits.{Passes, passes, passes-as, limits-nothing, limits-with, head-ranges}
-use Rattle.model.proofs.Entries.{numbers-end}
+use Rattle.model.proofs.Entries.{noWords, noKeys, zeros-fit, numbers-end}
 use Rattle.model.proofs.Checking.{Headed, Agrees, Heads, agrees-nothing, agrees-with, begins, head-before, checksOf}
 use Rattle.model.proofs.Counts.{ends, counts-end}
-use Rattle.model.proofs.Walk.{never}
 use Rattle.model.proofs.Indexing.{indexed}
 use Rattle.model.proofs.ZoneLaws.{All, empty, more, all-at}
 use Rattle.model.proofs.GoodModel.{GoodModel, good-model}
-use Rattle.model.proofs.Answering.{answered, start-exists, accepted-only}
+use Rattle.model.proofs.Answering.{accepted-only, start-exists, run-where, answered}
 use Rattle.model.proofs.OneAnswer.{read-one}
 
 -- the weights of edges, added
@@ -74,8 +73,8 @@ some-edge (E ∷ Es) h = omega arith
 -- the parts P behind words that come to s; where an edge may follow those, P begins with the rest of an action's edges
 record Formed (M : Model) (s : Seen) (P : Parts) : Type 0 where
   edges : All (FormedEdge M) (P .edges)
-  weights : 3 ≤ s .opener → s .opener ≤ 4 → s .weights + weigh (P .edges) ≡ M .denominator
-  few : 3 ≤ s .opener → s .opener ≤ 4 → s .run + length (P .edges) ≤ 4
+  weights : edgeMayFollow? (s .opener) ≡ true → s .weights + weigh (P .edges) ≡ M .denominator
+  few : edgeMayFollow? (s .opener) ≡ true → s .run + length (P .edges) ≤ 4
   actions : All (FormedAction M) (P .actions)
   locations : All (λ L. All (FormedAction M) (L .actions)) (P .locations)
 
@@ -90,14 +89,13 @@ module _ (M : Model) (positive : 1 ≤ M .denominator) where
     behind : (k : Kind) → Passes k s w → (number k ≡ 1 → ⊥) → Headed (M .clocks) (M .denominator) s
     behind k g n = head-before (begins (M .clocks) (M .denominator) before s (number k) a (g .follows)) n
 
-    -- no word but an edge or a bound follows an action, and behind an edge the weights add to the denominator
-    ended : (k : Kind) → Passes k s w → (number k ≡ 1 → ⊥) → eqb (number k) 4 ≡ false → follows? 3 (number k) ≡ false →
-        3 ≤ s .opener → s .opener ≤ 4 → s .weights ≡ M .denominator
+    -- a word behind the edges of an action: their weights add to the denominator
+    ended : (k : Kind) → Passes k s w → (number k ≡ 1 → ⊥) → eqb (number k) (number edge) ≡ false → eqb (number k) (number bound) ≡ false →
+        edgeMayFollow? (s .opener) ≡ true → s .weights ≡ M .denominator
     unfolding addsAt? adds?
-    ended k g n i f l m =
-        let other = never (s .opener) (number k) 3 (g .follows) f in
-        let last : s .opener ≡ 4 = omega arith in
-        eqb-true (s .weights) (s .denominator) (rw (last, g .named, i) at (g .adds)) ∙ behind k g n .denominator
+    ended k g n e b m =
+        let last = behind-edges (s .opener) (number k) (g .follows) m e b in
+        eqb-true (s .weights) (s .denominator) (rw (last, g .named, e) at (g .adds)) ∙ behind k g n .denominator
 
     formed-edge : Passes edge s w → landsAt w < length (M .locations) → FormedEdge M (edgeOf w)
     unfolding fields?
@@ -113,43 +111,43 @@ module _ (M : Model) (positive : 1 ≤ M .denominator) where
 
     formed-with :
         (k : Kind) → Passes k s w → (k ≡ edge → landsAt w < length (M .locations)) → Formed M (seenWithKind k s w p) P → Formed M s (partsWith k w P)
-    unfolding fields? seenWithKind partsWith weigh follows? mayFollow? numbered? follows
+    unfolding fields? seenWithKind partsWith weigh numbered?
     formed-with none g l f = false-true (g .fields)
     formed-with head g l f =
         let first : s .opener ≡ 0 = eqb-true (s .opener) 0 (head-first (s .opener) 1 (g .follows)) in
         record {
           edges = f .edges;
-          weights = λ i m. absurd (omega arith);
-          few = λ i m. absurd (omega arith);
+          weights = λ i. false-true (rw first at i);
+          few = λ i. false-true (rw first at i);
           actions = f .actions;
           locations = f .locations;
         }
     formed-with location g l f = record {
       edges = empty;
-      weights = λ i m. omega (arith, ended location g (λ n. omega arith) refl refl i m);
-      few = λ i m. omega arith;
+      weights = λ i. omega (arith, ended location g (λ n. omega arith) refl refl i);
+      few = λ i. omega arith;
       actions = empty;
       locations = more (f .actions) (f .locations);
     }
     formed-with action g l f =
-        let sum : weigh (P .edges) ≡ M .denominator = omega (arith, f .weights (omega arith) (omega arith)) in
+        let sum : weigh (P .edges) ≡ M .denominator = omega (arith, f .weights refl) in
         let this : FormedAction M (record { guard = P .bounds; edges = P .edges }) = record {
           edges = f .edges;
           weights = sum;
           some = some-edge (P .edges) (omega arith);
-          few = omega (arith, f .few (omega arith) (omega arith));
+          few = omega (arith, f .few refl);
         } in
         record {
           edges = empty;
-          weights = λ i m. omega (arith, ended action g (λ n. omega arith) refl refl i m);
-          few = λ i m. omega arith;
+          weights = λ i. omega (arith, ended action g (λ n. omega arith) refl refl i);
+          few = λ i. omega arith;
           actions = more this (f .actions);
           locations = f .locations;
         }
     formed-with edge g l f = record {
       edges = more (formed-edge g (l refl)) (f .edges);
-      weights = λ i m. omega (arith, f .weights (omega arith) (omega arith));
-      few = λ i m. omega (arith, f .few (omega arith) (omega arith));
+      weights = λ i. omega (arith, f .weights refl);
+      few = λ i. omega (arith, f .few refl);
       actions = f .actions;
       locations = f .locations;
     }
@@ -157,8 +155,8 @@ module _ (M : Model) (positive : 1 ≤ M .denominator) where
         record { edges = f .edges; weights = f .weights; few = f .few; actions = f .actions; locations = f .locations }
     formed-with start g l f = record {
       edges = empty;
-      weights = λ i m. omega (arith, ended start g (λ n. omega arith) refl refl i m);
-      few = λ i m. omega arith;
+      weights = λ i. omega (arith, ended start g (λ n. omega arith) refl refl i);
+      few = λ i. omega arith;
       actions = empty;
       locations = empty;
     }
@@ -171,10 +169,10 @@ module _ (M : Model) (positive : 1 ≤ M .denominator) where
       (before : List ℕ) (s : Seen) (p : ℕ) (ws : List ℕ) → WithinLimits s → Agrees (M .clocks) (M .denominator) before s →
       Heads (M .clocks) (M .denominator) before (getD ws 0 0) → Run s p ws → AllHold (edgeChecks (length (M .locations)) p ws) →
       Formed M s (partsOf ws)
-  unfolding partsOf edgeChecks seenWith
+  unfolding partsOf edgeChecks seenWith numbered?
   formed-from before s p [] h a first r e =
       let last = ends s r in
-      record { edges = empty; weights = λ i m. absurd (omega arith); few = λ i m. absurd (omega arith); actions = empty; locations = empty }
+      record { edges = empty; weights = λ i. false-true (rw last at i); few = λ i. false-true (rw last at i); actions = empty; locations = empty }
   formed-from before s p (w ∷ ws) h a first r e =
       let g = passes s w (r .0) in
       formed-with before s w p (partsOf ws) h a (kindOf w) g (lands (length (M .locations)) w (e .0) (g .named))
@@ -198,7 +196,7 @@ well-formed words r e = record {
   clocks = ranges .1;
   positive = ranges .2;
   denominator = omega arith;
-  start = start-exists words r;
+  start = start-exists words noWords noKeys zeros-fit r;
   actions = λ l. all-at l (parts .locations) empty;
 }
   where
@@ -207,7 +205,7 @@ well-formed words r e = record {
 
     locations : countOf (number location) words ≡ length (modelOf words .locations)
     locations = sym (ap (λ (c : Counts). c .locations) (counts-end words r))
-        ∙ sym (numbers-end nothing emptyIndex 0 words .locations) ∙ indexed words (answer.BadModelKind 0) r .locations
+        ∙ sym (numbers-end nothing (keep emptyIndex noWords noKeys) 0 words .locations) ∙ indexed words noWords noKeys zeros-fit r .locations
 
     parts : Formed (modelOf words) nothing (partsOf words)
     parts =
@@ -217,10 +215,11 @@ well-formed words r e = record {
 -- ---- an accepted model
 module _ (words : List ℕ) (counts : Counts) (h : ReadModel words (accepted counts)) where
   pub accepted-runs : Run nothing 0 words
-  unfolding scanned modelAnswer
+  unfolding modelAnswer
   accepted-runs =
-      let same = read-one words _ (answer.Accepted counts) (answered words) h in
-      run-of nothing emptyIndex (replicate 49 universe) 0 words (accepted-only (scanned words .fault) (scanned words .place) _ counts same)
+      let same = read-one words _ (answer.Accepted counts) (answered words noWords noKeys zeros-fit) h in
+      let pass = scanned words noWords noKeys in
+      run-where words noWords noKeys zeros-fit (accepted-only (pass .fault) (pass .place) _ counts same)
 
   pub accepted-good : GoodModel (modelOf words)
   accepted-good = good-model words accepted-runs

@@ -2,14 +2,15 @@
 use Prim.Native.Nat.{ℕ}
 use mathlib.Core.Path.{_≡_, refl, sym, _∙_}
 use mathlib.Core.Bool.{Bool, true, false, not}
-use borrow.Author.Tests.{not-true, not-false}
+use borrow.Author.Tests.{not-true, not-false, ne-eqb}
 use Rattle.zone.specs.Words.{kind}
 use Rattle.model.specs.Kinds.{Kind, none, head, location, action, edge, bound, start, number}
+use Rattle.model.specs.Grammar.{follows?}
 use Rattle.model.specs.Fields.{fields?}
-use Rattle.model.specs.Reading.{limit?}
-use Rattle.model.specs.Scan.{fieldsAt?, limitAt?}
+use Rattle.model.specs.Reading.{limit?, adds?}
+use Rattle.model.specs.Scan.{fieldsAt?, limitAt?, addsAt?}
 use Rattle.model.specs.declared.seen.Seen.{Seen}
-use Rattle.model.proofs.KindLaws.{kind-is, by-kind}
+use Rattle.model.proofs.KindLaws.{kind-is, by-kind, before-bound}
 
 -- a test r of what a check t says: the branch where it fails, and the way past it
 pub failed : {r t : Bool} → r ≡ t → not r ≡ true → t ≡ false
@@ -41,3 +42,13 @@ module _ (s : Seen) (w : ℕ) where
       other edge q = absurd (e q)
       other bound q = refl
       other start q = refl
+
+  -- a bound has no limit, and behind an edge, where weights end, there is none
+  module _ (e : kind w ≡ number bound) where
+    pub bound-limit : limitAt? s w ≡ true
+    unfolding limit?
+    bound-limit = sym (limit-at bound e)
+
+    pub bound-adds : follows? (s .opener) (kind w) ≡ true → addsAt? s w ≡ true
+    unfolding addsAt? adds?
+    bound-adds h = rw (ne-eqb (s .opener) (number edge) (before-bound (s .opener) (rw e at h)))

@@ -1,30 +1,21 @@
 -- The zones of a model's words: good bounds, the square tables that stand for lists of them, and how often these can be tightened.
 -- Assumes nothing.
 use Prim.Native.Nat.{ℕ, zero, suc, _≤_, _<_}
-use mathlib.Core.Path.{_≡_, refl, _∙_}
-use mathlib.Core.Bool.{Bool, true, false, cond}
+use mathlib.Core.Path.{_≡_, refl}
+use mathlib.Core.Bool.{true}
 use mathlib.Core.List.{List, [], _∷_}
 use native.Mathlib.Omega.{arith}
 use lib.IntN.{natAbs}
-use lib.ListN.{getD, length, set, replicate, length-set, length-replicate}
+use lib.ListN.{getD, set, replicate}
 use Rattle.zone.specs.Scale.{Bound, Zone, holds?, in?, Region, within}
 use Rattle.zone.specs.Words.{boundOf, goodBound?}
 use Rattle.zone.specs.Squares.{universe, Tightens}
-use Rattle.zone.specs.Reading.{withWord}
 use Rattle.zone.specs.declared.zones.Zone.{Zone as Square}
 use Rattle.zone.proofs.Bools.{both, and}
 use Rattle.zone.proofs.WordLaws.{good-first, good-second, good-number}
-use Rattle.zone.proofs.Sizes.{tightens-universe, tightens-withBound, tightens-withWord}
+use Rattle.zone.proofs.Sizes.{tightens-universe, tightens-withBound}
 use Rattle.zone.proofs.Regions.{Stands, inBoth, stands-same, stands-universe, stands-withBound}
-use Rattle.model.specs.Kinds.{bound, is}
-use Rattle.model.specs.Scan.{nothing, faultAt, seenWith, WithinLimits}
-use Rattle.model.specs.Index.{emptyIndex, indexWith, zonesWith, scanFrom, scanned}
 use Rattle.model.specs.Indexed.{withBounds}
-use Rattle.model.specs.declared.seen.Seen.{Seen}
-use Rattle.model.specs.declared.index.Index.{Index}
-use Rattle.model.specs.declared.scan.Scanned.{Scanned}
-use Rattle.model.proofs.Run.{unless}
-use Rattle.model.proofs.Limits.{limits-nothing, limits-with, good-bound}
 
 -- P holds of every element
 pub data All {A : Type 0} (P : A → Type 0) : List A → Type 0 where
@@ -74,7 +65,7 @@ tightens-on {y} (b ∷ z) (more g gs) s = tightens-on z gs (tightens-withBound b
 pub tightens-bounds : (z : Zone) → GoodZone z → Tightens 3 (withBounds z universe)
 tightens-bounds z g = tightens-on z g tightens-universe
 
--- ---- the tables in the slots
+-- ---- the entries of an array
 pub same-at : {A : Type 0} (n q : ℕ) (a : A) → getD (replicate n a) q a ≡ a
 same-at zero q a = refl
 same-at (suc n) zero a = refl
@@ -86,46 +77,3 @@ set-at P d x (y ∷ l) zero zero h g = g
 set-at P d x (y ∷ l) zero (suc q) h g = h (suc q)
 set-at P d x (y ∷ l) (suc i) zero h g = h 0
 set-at P d x (y ∷ l) (suc i) (suc q) h g = set-at P d x l i q (λ p. h (suc p)) g
-
--- a word changes no zone's place
-pub zones-length : (s : Seen) (w : ℕ) (zs : List Square) → length (zonesWith s w zs) ≡ length zs
-unfolding zonesWith
-zones-length s w zs = by (is bound w)
-  where
-    by : (c : Bool) → length (cond c (set zs (s .slot) (withWord w (getD zs (s .slot) universe))) zs) ≡ length zs
-    by true = length-set zs (s .slot) _
-    by false = refl
-
--- the zones of a pass: 49 of them, of bounds as words give them
-pub record ZonesFit (zs : List Square) : Type 0 where
-  pub sized : length zs ≡ 49
-  pub tightens : (q : ℕ) → Tightens 3 (getD zs q universe)
-
-tightens-with : (s : Seen) (w : ℕ) (zs : List Square) → (is bound w ≡ true → goodBound? (s .clocks) w ≡ true) →
-    ((q : ℕ) → Tightens 3 (getD zs q universe)) → (q : ℕ) → Tightens 3 (getD (zonesWith s w zs) q universe)
-unfolding zonesWith
-tightens-with s w zs good h q = by (is bound w) good
-  where
-    new : Square
-    new = withWord w (getD zs (s .slot) universe)
-
-    by : (c : Bool) → (c ≡ true → goodBound? (s .clocks) w ≡ true) → Tightens 3 (getD (cond c (set zs (s .slot) new) zs) q universe)
-    by true g = set-at (Tightens 3) universe new zs (s .slot) q h (tightens-withWord (s .clocks) w (g refl) _ (h (s .slot)))
-    by false g = h q
-
-fit-from : (s : Seen) (x : Index) (zs : List Square) (p : ℕ) (ws : List ℕ) → WithinLimits s → ZonesFit zs →
-    ZonesFit (scanFrom s x zs p ws .zones)
-unfolding scanFrom
-fit-from s x zs p [] h r = r
-fit-from s x zs p (w ∷ ws) h r =
-    unless (λ (q : Scanned). ZonesFit (q .zones)) (faultAt s w) _ _ r
-    λ f. fit-from (seenWith s w p) (indexWith s w p x) (zonesWith s w zs) (suc p) ws (limits-with s w p h f) (record {
-      sized = zones-length s w zs ∙ r .sized;
-      tightens = tightens-with s w zs (good-bound s w h f) (r .tightens);
-    })
-
-pub fit-scanned : (words : List ℕ) → ZonesFit (scanned words .zones)
-unfolding scanned
-fit-scanned words =
-    fit-from nothing emptyIndex (replicate 49 universe) 0 words limits-nothing
-    (record { sized = length-replicate 49 universe; tightens = λ q. rw (same-at 49 q universe) tightens-universe })

@@ -7,6 +7,7 @@ pub mod Grammar
 pub mod Model
 pub mod States
 pub mod Reading
+pub mod Openers
 pub mod Scan
 pub mod Index
 pub mod Indexed

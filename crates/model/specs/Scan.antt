@@ -1,12 +1,14 @@
 -- Algorithm: what the words read so far come to, and the first check that the next word fails. Assumes nothing.
 use Prim.Native.Nat.{ℕ, _+_, _*_, _≤_, _<_, _^_}
-use mathlib.Core.Bool.{Bool, cond}
-use lib.Dec.{eqb}
+use mathlib.Core.Path.{_≡_}
+use mathlib.Core.Bool.{Bool, true, cond}
+use lib.Dec.{eqb, ltb}
 use Rattle.zone.specs.Words.{kind}
 use Rattle.model.specs.Kinds.{Kind, none, head, location, action, edge, bound, start, number, kindOf}
 use Rattle.model.specs.Grammar.{follows?}
-use Rattle.model.specs.Fields.{clocksOf, denominatorOf, weightOf, startOf, fields?}
+use Rattle.model.specs.Fields.{clocksOf, denominatorOf, landsAt, weightOf, startOf, fields?}
 use Rattle.model.specs.Reading.{limit?, adds?}
+use Rattle.model.specs.Openers.{opener?, edgeMayFollow?}
 use Rattle.model.specs.declared.seen.Seen.{Seen}
 use Rattle.model.specs.declared.seen.Fault.{Fault}
 use Rattle.model.specs.declared.seen.Fault.the-variants as fault
@@ -25,6 +27,7 @@ nothing =
       slot = 0;
       start = 0;
       place = 0;
+      furthest = 0;
     }
 
 unfoldable pub fieldsAt? : Seen → ℕ → Bool
@@ -50,8 +53,8 @@ faultAt s w =
 unfoldable pub lastFault : Seen → Fault
 lastFault s = cond (eqb (s .opener) (number start)) fault.None fault.Kind
 
--- where the zones of a model stand in their array: the invariant of location l at l, the guard of action a at guardsAt + a, the start bounds
--- at startBoundsAt
+-- where the zones of a model stand in their store: the invariant of location l at slot l, the guard of action a at slot guardsAt + a, the start
+-- bounds at slot startBoundsAt
 abbrev pub guardsAt : ℕ
 guardsAt = 16
 
@@ -76,6 +79,7 @@ withHead s w =
       slot = s .slot;
       start = s .start;
       place = s .place;
+      furthest = s .furthest;
     }
 
 abbrev pub withLocation : Seen → Seen
@@ -92,6 +96,7 @@ withLocation s =
       slot = s .locations;
       start = s .start;
       place = s .place;
+      furthest = s .furthest;
     }
 
 abbrev pub withAction : Seen → Seen
@@ -108,6 +113,7 @@ withAction s =
       slot = guardsAt + s .actions;
       start = s .start;
       place = s .place;
+      furthest = s .furthest;
     }
 
 abbrev pub withEdge : Seen → ℕ → Seen
@@ -124,6 +130,7 @@ withEdge s w =
       slot = s .slot;
       start = s .start;
       place = s .place;
+      furthest = cond (ltb (s .furthest) (landsAt w)) (landsAt w) (s .furthest);
     }
 
 abbrev pub withStart : Seen → ℕ → ℕ → Seen
@@ -140,6 +147,7 @@ withStart s w p =
       slot = startBoundsAt;
       start = startOf w;
       place = p;
+      furthest = s .furthest;
     }
 
 unfoldable pub seenWithKind : Kind → Seen → ℕ → ℕ → Seen
@@ -154,9 +162,10 @@ seenWithKind start s w p = withStart s w p
 unfoldable pub seenWith : Seen → ℕ → ℕ → Seen
 seenWith s w p = seenWithKind (kindOf w) s w p
 
--- what holds of the words read so far while no check has failed
+-- what holds of the words read so far while no check has failed. The limits are document 01's: 4 clocks, a denominator below 2^16, 16 locations,
+-- 32 actions, 4 edges in an action
 pub record WithinLimits (s : Seen) : Type 0 where
-  pub opener : s .opener ≤ 6
+  pub opener : opener? (s .opener) ≡ true
   pub clocks : s .clocks ≤ 4
   pub denominator : s .denominator < 2 ^ 16
   pub locations : s .locations ≤ 16
@@ -164,7 +173,7 @@ pub record WithinLimits (s : Seen) : Type 0 where
   pub edges : s .edges ≤ 4 * s .actions
   pub run : s .run ≤ 4
   -- where an edge may follow there is room for it, since the actions before the last have at most 4 edges each
-  pub room : number action ≤ s .opener → s .opener ≤ number edge → s .edges + 4 ≤ 4 * s .actions + s .run
+  pub room : edgeMayFollow? (s .opener) ≡ true → s .edges + 4 ≤ 4 * s .actions + s .run
   pub weights : s .weights ≤ s .run * 2 ^ 16
   pub slot : s .slot < zoneCount
   pub start : s .start < 16

@@ -1,32 +1,25 @@
 // The parts of a model by number: which location has which actions, and which action which edges.
 ghost use mathlib.Core.Path.{_≡_};
-ghost use Prim.Native.Nat.{_≤_};
-ghost use lib.ListN.{take};
 ghost use Rattle.model.specs.Scan.{WithinLimits};
 ghost use Rattle.model.specs.Index.{closed, firstMissing};
 use crate::fields;
+use crate::kinds;
 use crate::seen::Seen;
-
-// An edge word and its index in the file.
-pub struct EdgeWord {
-    pub word: u32,
-    pub place: usize,
-}
+use zone::words;
 
 // The parts of a model, numbered through the file from 0. Location l has the actions from actions[l] up to actions[l + 1], action a the edges
-// from edges[a] up to edges[a + 1], and edge e is words[e].
+// from edges[a] up to edges[a + 1]. The words of the edges and the zones of the model stand beside it, in stores that the caller lends.
 pub struct Index {
     pub clocks: u32,
     pub denominator: u32,
     pub locations: usize,
     pub start: u32,
     pub targets: [bool; 16],
-    pub actions: [usize; 17],
-    pub edges: [usize; 33],
-    pub words: [EdgeWord; 128],
+    pub actions: [u8; 17],
+    pub edges: [u8; 33],
 }
 
-// The place of the first edge whose location does not exist.
+// The place of the first edge word whose location does not exist.
 pub(crate) enum Missing {
     At(usize),
     None,
@@ -41,7 +34,6 @@ impl Index {
         targets: [false; 16],
         actions: [0; 17],
         edges: [0; 33],
-        words: [EdgeWord { word: 0, place: 0 }; 128],
     };
 
     // With what the whole file comes to, and the ends of the last location and of the last action.
@@ -55,23 +47,23 @@ impl Index {
         next.locations = seen.locations;
         next.start = seen.start;
         let l = seen.locations;
-        next.actions[l] = seen.actions;
+        next.actions[l] = seen.actions as u8;
         let a = seen.actions;
-        next.edges[a] = seen.edges;
+        next.edges[a] = seen.edges as u8;
         next
     }
+}
 
-    // The first of so many edges whose location is not one of so many.
-    pub(crate) fn first_missing(self, edges: usize, locations: usize) -> Missing
-        requires { ⌜ edges ≤ 128 ⌝ }
-        ensures { λ r. ⌜ r ≡ firstMissing locations (take edges (self .words)) ⌝ }
-    {
-        for e in 0..edges {
-            let edge = self.words[e];
-            if locations <= fields::lands_at(edge.word) as usize {
-                return Missing::At(edge.place);
-            }
+// The first edge word whose location is not one of so many.
+pub(crate) fn first_missing(list: &[u32], locations: usize) -> Missing
+    ensures { λ r. ⌜ r ≡ firstMissing locations 0 (now (list .entry)) ⌝ }
+{
+    for at in 0..list.len() {
+        let word = list[at];
+        let missing = locations <= fields::lands_at(word) as usize;
+        if (words::kind_of(word) == kinds::EDGE) & missing {
+            return Missing::At(at);
         }
-        Missing::None
     }
+    Missing::None
 }

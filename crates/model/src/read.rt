@@ -1,12 +1,14 @@
 // The call that reads a model, with refusals 1 to 6, and what judging needs of an accepted one.
 ghost use mathlib.Core.Path.{_≡_};
 ghost use Rattle.model.specs.Reading.{ReadModel, modelAnswer};
-ghost use Rattle.model.specs.Index.{wholeAnswer, answerOf};
+ghost use Rattle.model.specs.Index.{StoresFit, faultAnswer, missingOf, wholeAnswer};
 ghost use Rattle.model.specs.Indexed.{IndexedWhere};
+use crate::index;
 use crate::index::Index;
 use crate::index::Missing;
+use crate::places::EDGES;
 use crate::places::START_BOUNDS;
-use crate::places::ZONES;
+use crate::places::ZONE_KEYS;
 use crate::scan;
 use crate::seen::Fault;
 use crate::seen::Seen;
@@ -30,13 +32,35 @@ pub enum ModelAnswer {
     NoStart(usize),
 }
 
-// The answer, and beside it what judging needs of an accepted model: its parts, the zones of its locations and actions and of the start bounds,
-// and the zone of its start valuations, tightened. Of a refused file only the answer says anything.
+// The answer, and beside it what judging needs of an accepted model: its index, and the zone of its start valuations, tightened. Its edge words
+// and zones stand in the lent stores. Of a refused file only the answer says anything.
 pub struct ModelRead {
     pub answer: ModelAnswer,
     pub index: Index,
-    pub zones: [Zone; ZONES],
     pub initial: Zone,
+}
+
+// The answer of a fault at a place.
+pub(crate) fn fault_answer(fault: Fault, place: usize) -> ModelAnswer
+    ensures { λ r. ⌜ r ≡ faultAnswer fault place ⌝ }
+{
+    match fault {
+        Fault::Kind => ModelAnswer::BadModelKind(place),
+        Fault::Field => ModelAnswer::BadModelField(place),
+        Fault::Limit => ModelAnswer::OverModelLimit(place),
+        Fault::Weights => ModelAnswer::BadWeights(place),
+        Fault::None => ModelAnswer::BadModelKind(place), // no fault: never asked for
+    }
+}
+
+// The first edge word whose location does not exist. The words are searched only where there is one.
+pub(crate) fn missing_of(list: &[u32], seen: Seen) -> Missing
+    ensures { λ r. ⌜ r ≡ missingOf seen (now (list .entry)) ⌝ }
+{
+    if (seen.furthest as usize) < seen.locations {
+        return Missing::None;
+    }
+    index::first_missing(list, seen.locations)
 }
 
 // The answer of a file whose words are good: 5 and 6.
@@ -56,42 +80,31 @@ pub(crate) fn whole_answer(missing: Missing, empty: bool, seen: Seen) -> ModelAn
     })
 }
 
-// The answer that a fault at a place leads to, or that of the whole file.
-pub(crate) fn answer_of(fault: Fault, place: usize, whole: ModelAnswer) -> ModelAnswer
-    ensures { λ r. ⌜ r ≡ answerOf fault place whole ⌝ }
-{
-    match fault {
-        Fault::None => whole,
-        Fault::Kind => ModelAnswer::BadModelKind(place),
-        Fault::Field => ModelAnswer::BadModelField(place),
-        Fault::Limit => ModelAnswer::OverModelLimit(place),
-        Fault::Weights => ModelAnswer::BadWeights(place),
-    }
-}
-
-// Reads a model, and works out once what judging needs of it.
-pub fn index_model(list: &[u32]) -> ModelRead
+// Reads a model into lent stores, and works out once what judging needs of it.
+pub fn index_model(list: &[u32], edges: &mut [u32], zones: &mut [i32]) -> ModelRead
+    requires { ⌜ StoresFit (now edges) (now zones) ⌝ }
     ensures answers { λ r. ⌜ ReadModel (now (list .entry)) (modelAnswer (r .answer)) ⌝ }
-    ensures indexed { λ r. ⌜ IndexedWhere (now (list .entry)) r ⌝ }
+    ensures indexed { λ r. ⌜ IndexedWhere (now (list .entry)) r (now (edges .exit)) (now (zones .exit)) ⌝ }
 {
-    let scanned = scan::scan(list);
+    let scanned = scan::scan(list, edges, zones);
     let seen = scanned.seen;
     let index = scanned.index;
-    let zones = scanned.zones;
-    let invariant = zones[seen.start as usize];
-    let bounds = zones[START_BOUNDS];
-    let initial = invariant.meet(bounds).tighten();
-    let missing = index.first_missing(seen.edges, seen.locations);
     let fault = scanned.fault;
-    let answer = answer_of(
-        fault,
-        scanned.place,
-        whole_answer(missing, initial.is_empty(), seen),
-    );
+    let Fault::None = fault else {
+        return ModelRead {
+            answer: fault_answer(fault, scanned.place),
+            index,
+            initial: Zone::universe(),
+        };
+    };
+    let invariant = Zone::load(zones, seen.start as usize);
+    let bounds = Zone::load(zones, START_BOUNDS);
+    let initial = invariant.meet(bounds).tighten();
+    let missing = missing_of(list, seen);
+    let answer = whole_answer(missing, initial.is_empty(), seen);
     ModelRead {
         answer,
         index,
-        zones,
         initial,
     }
 }
@@ -100,6 +113,8 @@ pub fn index_model(list: &[u32]) -> ModelRead
 pub fn read_model(list: &[u32]) -> ModelAnswer
     ensures { λ r. ⌜ ReadModel (now (list .entry)) (modelAnswer r) ⌝ }
 {
-    let read = index_model(list);
+    let mut edges = [0u32; EDGES];
+    let mut zones = [0i32; ZONE_KEYS];
+    let read = index_model(list, &mut edges, &mut zones);
     read.answer
 }

@@ -1,13 +1,14 @@
-// One pass over a model's words: the first fault, or the index and the zones of the whole file.
+// One pass over a model's words: the first fault, or the index of the whole file and, in the lent stores, its edge words and zones.
 ghost use mathlib.Core.Path.{_≡_};
-ghost use Rattle.model.specs.Index.{scannedAt, scanned};
+ghost use Rattle.model.specs.Index.{StoresFit, passOf, scanned};
 use crate::fields;
-use crate::index::EdgeWord;
 use crate::index::Index;
 use crate::kinds;
-use crate::places::ZONES;
+use crate::places::GUARDS;
+use crate::places::START_BOUNDS;
 use crate::seen::Fault;
 use crate::seen::Seen;
+use zone::stores;
 use zone::words;
 use zone::zones::Zone;
 
@@ -17,79 +18,61 @@ pub(crate) struct Scanned {
     pub place: usize,
     pub seen: Seen,
     pub index: Index,
-    pub zones: [Zone; ZONES],
 }
 
-impl Scanned {
-    // Where the pass ends.
-    pub(crate) fn at(
-        fault: Fault,
-        place: usize,
-        seen: Seen,
-        index: Index,
-        zones: [Zone; ZONES],
-    ) -> Scanned
-        ensures { λ r. ⌜ r ≡ scannedAt fault place seen index zones ⌝ }
-    {
-        Scanned {
-            fault,
-            place,
-            seen,
-            index,
-            zones,
-        }
-    }
-}
-
-// One pass over the words. The index and the zones are written in place, since they are large.
-pub(crate) fn scan(list: &[u32]) -> Scanned
-    ensures { λ r. ⌜ r ≡ scanned (now (list .entry)) ⌝ }
+// One pass over the words. The index is written in place; an opener's zone begins as every valuation, and each bound is picked in place.
+pub(crate) fn scan(list: &[u32], edges: &mut [u32], zones: &mut [i32]) -> Scanned
+    requires { ⌜ StoresFit (now edges) (now zones) ⌝ }
+    ensures { λ r. ⌜ passOf r (now (edges .exit)) (now (zones .exit)) ≡ scanned (now (list .entry)) (now (edges .entry)) (now (zones .entry)) ⌝ }
 {
     let mut seen = Seen::NOTHING;
     let mut index = Index::EMPTY;
-    let universe = Zone::universe();
-    let mut zones = [universe; ZONES];
-    let mut current = universe; // the zone of the last opener, put at its slot when the next is read
     let follows = kinds::FOLLOWS; // once, not at each word
     for at in 0..list.len() {
         let word = list[at];
         let kind = words::kind_of(word);
         let allowed = follows[seen.opener as usize][kind as usize];
         let fault = seen.fault(allowed, word);
-        let slot = seen.slot;
         let Fault::None = fault else {
-            zones[slot] = current;
-            return Scanned::at(fault, at, seen, index, zones);
+            return Scanned {
+                fault,
+                place: at,
+                seen,
+                index,
+            };
         };
         if kind == kinds::BOUND {
-            let p = words::cell_of(word);
-            let old = current.cells[p];
-            current.cells[p] = old.tighter_of(words::bound_of(word));
+            stores::add_bound(zones, seen.slot, word);
             continue;
         }
-        zones[slot] = current;
         match kind {
             kinds::LOCATION => {
                 let l = seen.locations;
                 index.targets[l] = fields::is_target(word);
-                index.actions[l] = seen.actions;
+                index.actions[l] = seen.actions as u8;
+                Zone::universe().put(zones, l);
             }
             kinds::ACTION => {
                 let a = seen.actions;
-                index.edges[a] = seen.edges;
+                index.edges[a] = seen.edges as u8;
+                Zone::universe().put(zones, GUARDS + a);
             }
             kinds::EDGE => {
                 let e = seen.edges;
-                index.words[e] = EdgeWord { word, place: at };
+                edges[e] = word;
+            }
+            kinds::START => {
+                Zone::universe().put(zones, START_BOUNDS);
             }
             _ => {}
         }
         seen = seen.with_word(word, at);
-        let next = seen.slot;
-        current = zones[next];
     }
-    let slot = seen.slot;
-    zones[slot] = current;
     let fault = seen.last_fault();
-    Scanned::at(fault, list.len(), seen, index.closed(seen), zones)
+    Scanned {
+        fault,
+        place: list.len(),
+        seen,
+        index: index.closed(seen),
+    }
 }

@@ -1,6 +1,7 @@
 // What the words of a model read so far come to, and the first check that the next word fails.
 ghost use mathlib.Core.Path.{_≡_};
 ghost use Rattle.zone.specs.Words.{kind};
+ghost use Rattle.model.specs.Kinds.{bound, number};
 ghost use Rattle.model.specs.Grammar.{follows?};
 ghost use Rattle.model.specs.Scan.{WithinLimits, fieldsAt?, limitAt?, addsAt?, faultAt, lastFault};
 ghost use Rattle.model.specs.Scan.{withHead, withLocation, withAction, withEdge, withStart, seenWith};
@@ -22,6 +23,7 @@ pub(crate) struct Seen {
     pub slot: usize, // where the zone of the opener stands
     pub start: u32, // the start's location
     pub place: usize, // the index of the start word
+    pub furthest: u32, // the largest location number that an edge leads to
 }
 
 // The first check that a word fails.
@@ -46,7 +48,17 @@ impl Seen {
         slot: 0,
         start: 0,
         place: 0,
+        furthest: 0,
     };
+
+    // Whether the fields of a bound word are in their ranges and its spare bits zero. But for the start bounds, one of its clocks is clock 0.
+    pub(crate) fn bound_fields(self, word: u32) -> bool
+        requires { ⌜ kind word ≡ number bound ⌝ }
+        ensures { λ r. ⌜ r ≡ fieldsAt? self word ⌝ }
+    {
+        words::bound_fields(self.clocks, word)
+            & ((self.opener == kinds::START) | fields::one_zero(word))
+    }
 
     // Whether the fields of a word are in their ranges and its spare bits zero.
     pub(crate) fn fields(self, word: u32) -> bool
@@ -59,8 +71,7 @@ impl Seen {
             kinds::LOCATION => fields::location_fields(word),
             kinds::ACTION => fields::action_fields(word),
             kinds::EDGE => fields::edge_fields(self.clocks, self.denominator, word),
-            kinds::BOUND => words::bound_fields(self.clocks, word)
-                & ((self.opener == kinds::START) | fields::one_zero(word)),
+            kinds::BOUND => self.bound_fields(word),
             kinds::START => fields::start_fields(self.locations, word),
             _ => false,
         }
@@ -88,11 +99,29 @@ impl Seen {
             | (self.weights == self.denominator)
     }
 
+    // The first check that a bound word fails: it has no limit, and no weights end before it. Most words of a long file are bounds, so they
+    // are asked no more than that.
+    pub(crate) fn bound_fault(self, allowed: bool, word: u32) -> Fault
+        requires { ⌜ (kind word ≡ number bound) × (allowed ≡ follows? (self .opener) (kind word)) ⌝ }
+        ensures { λ r. ⌜ r ≡ faultAt self word ⌝ }
+    {
+        if !allowed {
+            return Fault::Kind;
+        }
+        if !self.bound_fields(word) {
+            return Fault::Field;
+        }
+        Fault::None
+    }
+
     // The first check that a word fails, where the constant table says whether it is allowed behind the opener.
     pub(crate) fn fault(self, allowed: bool, word: u32) -> Fault
         requires { ⌜ WithinLimits self × (allowed ≡ follows? (self .opener) (kind word)) ⌝ }
         ensures { λ r. ⌜ r ≡ faultAt self word ⌝ }
     {
+        if words::kind_of(word) == kinds::BOUND {
+            return self.bound_fault(allowed, word);
+        }
         if !allowed {
             return Fault::Kind;
         }
@@ -167,6 +196,12 @@ impl Seen {
         next.edges = self.edges + 1;
         next.run = self.run + 1;
         next.weights = self.weights + fields::weight_of(word);
+        let to = fields::lands_at(word);
+        next.furthest = if self.furthest < to {
+            to
+        } else {
+            self.furthest
+        };
         next
     }
 

@@ -6,39 +6,26 @@ use mathlib.Core.Bool.{Bool, true, false, not, cond, _&&_, _||_}
 use mathlib.Core.List.{List, [], _∷_, _++_, reverseAux}
 use native.Mathlib.Omega.{arith}
 use lib.Dec.{eqb, ltb}
-use lib.ListN.{getD, length, replicate}
+use lib.IntN.{ℤ}
+use lib.ListN.{getD, length}
 use Rattle.zone.specs.Words.{kind}
 use Rattle.zone.specs.Checks.{Answer, Check, test, First}
-use Rattle.zone.specs.Squares.{universe}
-use Rattle.zone.specs.declared.zones.Zone.{Zone as Square}
 use Rattle.zone.proofs.Bools.{left-true}
-use Rattle.model.specs.TableKinds.{tableHead, node, successor, startNode, isTable, tableKindOf, tableNumber}
+use Rattle.model.specs.TableKinds.{noKind, tableHead, node, successor, startNode, isTable, tableKindOf, tableNumber}
 use Rattle.model.specs.Before.{openerFrom, countOf}
 use Rattle.model.specs.Grammar.{tableFollows?}
 use Rattle.model.specs.Model.{Model}
 use Rattle.model.specs.Indexed.{Indexed}
 use Rattle.model.proofs.Counts.{count-reversed}
 use Rattle.model.specs.declared.index.Index.{Index}
-use Rattle.model.specs.declared.read.ModelRead.{ModelRead}
+use Rattle.model.specs.Index.{Kept as ModelKept}
 use Rattle.table.specs.Fields.{wholeOf, numberOf, fields?}
 use Rattle.table.specs.Reading.{due, rowsAllow?, limit?, wordChecks, wordsChecks, numberChecks, readChecks, tableAnswer}
 use Rattle.table.specs.Scan.{nothing, rowsAllowAt?, fieldsAt?, limitAt?, faultAt, lastFault, seenWith}
-use Rattle.table.specs.Index.{
-  noEntry,
-  nodesWith,
-  zonesWith,
-  scannedAt,
-  unlessFault,
-  scanFrom,
-  scanned,
-  numbersAnswer,
-  answerOf,
-}
+use Rattle.table.specs.Index.{Kept, keep, keptWith, Pass, passAt, unlessFault, scanFrom, scanned, numbersAnswer, answerOf}
 use Rattle.table.specs.declared.seen.Seen.{Seen}
 use Rattle.table.specs.declared.seen.Fault.{Fault}
 use Rattle.table.specs.declared.seen.Fault.the-variants as fault
-use Rattle.table.specs.declared.nodes.NodeEntry.{NodeEntry}
-use Rattle.table.specs.declared.scan.Scanned.{Scanned}
 use Rattle.table.specs.declared.read.TableAnswer.{TableAnswer}
 use Rattle.table.specs.declared.read.TableAnswer.the-variants as answer
 use Rattle.table.proofs.KindLaws.{kind-is}
@@ -56,7 +43,7 @@ same-fault false b c a′ b′ c′ e f h = rw (← e)
 -- the three tests on a word behind the words before
 module _ (M : Model) (whole : ℕ) (before : List ℕ) (w : ℕ) where
   abbrev kind? : Bool
-  kind? = tableFollows? (openerFrom 16 before) (kind w) && rowsAllow? (tableKindOf w) (due M before)
+  kind? = tableFollows? (openerFrom (tableNumber noKind) before) (kind w) && rowsAllow? (tableKindOf w) (due M before)
 
   abbrev field? : Bool
   field? = fields? (tableKindOf w) (M .clocks) (length (M .locations)) whole w
@@ -64,30 +51,30 @@ module _ (M : Model) (whole : ℕ) (before : List ℕ) (w : ℕ) where
   abbrev under? : Bool
   under? = limit? (tableKindOf w) (countOf (tableNumber node) before)
 
-module _ (M : Model) (r : ModelRead) (i : Indexed M r) (whole : ℕ) (before : List ℕ) (s : Seen) (w : ℕ) where
+module _ (M : Model) (m : ModelKept) (i : Indexed M m) (whole : ℕ) (before : List ℕ) (s : Seen) (w : ℕ) where
   abbrev x : Index
-  x = r .index
+  x = m .index
 
   same-fields : Begins whole before s (kind w) → fieldsAt? s (x .clocks) (x .locations) w ≡ field? M whole before w
   unfolding fieldsAt? fields?
   same-fields (here e o n) = rw (kind-is tableHead w n)
   same-fields (there h n) = rw (h .whole, i .clocks, i .locations)
 
-  fault-is : Agrees M r whole before s →
+  fault-is : Agrees M m whole before s →
       faultAt s (x .clocks) (x .locations) w ≡ firstFault (kind? M whole before w) (field? M whole before w) (under? M whole before w)
   unfolding faultAt rowsAllowAt? limitAt?
   fault-is a =
       same-fault (tableFollows? (s .opener) (kind w) && rowsAllowAt? s w) (fieldsAt? s (x .clocks) (x .locations) w) (limitAt? s w)
       (kind? M whole before w) (field? M whole before w) (under? M whole before w)
-      (rw (same-rows r (a .rows .actions) (due M before) s (a .rows .left) (tableKindOf w), a .tallies .opener))
+      (rw (same-rows m (due M before) s (a .rows) (tableKindOf w), a .tallies .opener))
       (rw (a .tallies .nodes))
-      λ f. same-fields (begins M r whole before s a (kind w) (left-true _ _ f))
+      λ f. same-fields (begins M m whole before s a (kind w) (left-true _ _ f))
 
 -- ---- the pass
 
 -- the answer of a pass, if `whole` is that on the whole file
-abbrev answered : TableAnswer → Scanned → Answer (Unit {0})
-answered whole r = tableAnswer (answerOf (r .fault) (r .place) whole)
+abbrev answered : TableAnswer → Pass → Answer (Unit {0})
+answered whole q = tableAnswer (answerOf (q .fault) (q .place) whole)
 
 -- an acceptance has no value to judge
 abbrev any : Unit {0} → Type 0
@@ -96,14 +83,14 @@ any u = Unit {0}
 module _ (more : List Check) (whole : TableAnswer) where
   -- at a word
   step-first :
-      (a b c : Bool) (f : Fault) → f ≡ firstFault a b c → (s : Seen) (ns : List NodeEntry) (zs : List Square) (p : ℕ) (go : Scanned) →
+      (a b c : Bool) (f : Fault) → f ≡ firstFault a b c → (s : Seen) (k : Kept) (p : ℕ) (go : Pass) →
       (f ≡ fault.None → First more any (answered whole go)) →
-      First (test 11 p a ∷ test 12 p b ∷ test 13 p c ∷ more) any (answered whole (unlessFault f (scannedAt f p s ns zs) go))
+      First (test 11 p a ∷ test 12 p b ∷ test 13 p c ∷ more) any (answered whole (unlessFault f (passAt f p s k) go))
   unfolding unlessFault answerOf tableAnswer
-  step-first true true true f e s ns zs p go h = rw e (inl (tt, inl (tt, inl (tt, h e))))
-  step-first true true false f e s ns zs p go h = rw e (inl (tt, inl (tt, inr (λ t. t, refl))))
-  step-first true false c f e s ns zs p go h = rw e (inl (tt, inr (λ t. t, refl)))
-  step-first false b c f e s ns zs p go h = rw e (inr (λ t. t, refl))
+  step-first true true true f e s k p go h = rw e (inl (tt, inl (tt, inl (tt, h e))))
+  step-first true true false f e s k p go h = rw e (inl (tt, inl (tt, inr (λ t. t, refl))))
+  step-first true false c f e s k p go h = rw e (inl (tt, inr (λ t. t, refl)))
+  step-first false b c f e s k p go h = rw e (inr (λ t. t, refl))
 
   -- at the end
   last-first :
@@ -117,56 +104,57 @@ module _ (more : List Check) (whole : TableAnswer) where
 abbrev pub checksOf : Model → List ℕ → List Check
 checksOf M words = wordsChecks M (wholeOf (getD words 0 0)) [] words
 
-module _ (M : Model) (r : ModelRead) (i : Indexed M r) where
+module _ (M : Model) (m : ModelKept) (i : Indexed M m) where
   words-from :
-      (whole : ℕ) (before words : List ℕ) (s : Seen) (ns : List NodeEntry) (zs : List Square) → Agrees M r whole before s →
+      (whole : ℕ) (before words : List ℕ) (s : Seen) (k : Kept) → Agrees M m whole before s →
       Heads whole before (getD words 0 0) → (more : List Check) (end : TableAnswer) →
-      (scanFrom (r .index) s ns zs (length before) words .fault ≡ fault.None → First more any (tableAnswer end)) →
-      First (wordsChecks M whole before words ++ more) any (answered end (scanFrom (r .index) s ns zs (length before) words))
+      (scanFrom (m .index) s k (length before) words .fault ≡ fault.None → First more any (tableAnswer end)) →
+      First (wordsChecks M whole before words ++ more) any (answered end (scanFrom (m .index) s k (length before) words))
   unfolding scanFrom wordsChecks wordChecks lastFault
-  words-from whole before [] s ns zs a first more end h =
-      last-first more end (eqb (openerFrom 16 before) 12) (lastFault s) (rw (a .tallies .opener)) (length before) h
-  words-from whole before (w ∷ ws) s ns zs a first more end h =
+  words-from whole before [] s k a first more end h =
+      last-first more end (eqb (openerFrom (tableNumber noKind) before) (tableNumber startNode)) (lastFault s) (rw (a .tallies .opener)) (length before) h
+  words-from whole before (w ∷ ws) s k a first more end h =
       let p : ℕ = length before in
-      let x : Index = r .index in
+      let x : Index = m .index in
       let f : Fault = faultAt s (x .clocks) (x .locations) w in
-      let go : Scanned = scanFrom x (seenWith x s w p) (nodesWith s w p ns) (zonesWith s w zs) (suc p) ws in
+      let go : Pass = scanFrom x (seenWith x s w p) (keptWith s w p k) (suc p) ws in
       step-first (wordsChecks M whole (w ∷ before) ws ++ more) end (kind? M whole before w) (field? M whole before w) (under? M whole before w)
-      f (fault-is M r i whole before s w a) s ns zs p go λ n.
-      words-from whole (w ∷ before) ws (seenWith x s w p) (nodesWith s w p ns) (zonesWith s w zs) (agrees-with M r i whole before s w p a n first)
+      f (fault-is M m i whole before s w a) s k p go λ n.
+      words-from whole (w ∷ before) ws (seenWith x s w p) (keptWith s w p k) (agrees-with M m i whole before s w p a n first)
       (λ e. absurd (omega (arith, ap length e))) more end
-      λ g. h (ap (λ (t : Scanned). t .fault) (goes f (scannedAt f p s ns zs) go n) ∙ g)
+      λ g. h (ap (λ (t : Pass). t .fault) (goes f (passAt f p s k) go n) ∙ g)
 
   pub words-first :
-      (words : List ℕ) (more : List Check) (end : TableAnswer) →
-      (scanned (r .index) words .fault ≡ fault.None → First more any (tableAnswer end)) →
-      First (checksOf M words ++ more) any (tableAnswer (answerOf (scanned (r .index) words .fault) (scanned (r .index) words .place) end))
+      (words ns : List ℕ) (zs : List ℤ) (more : List Check) (end : TableAnswer) →
+      (scanned (m .index) words ns zs .fault ≡ fault.None → First more any (tableAnswer end)) →
+      First (checksOf M words ++ more) any (answered end (scanned (m .index) words ns zs))
   unfolding scanned
-  words-first words =
-      words-from (wholeOf (getD words 0 0)) [] words nothing (replicate 64 noEntry) (replicate 64 universe) (agrees-nothing M r _) (λ e. refl)
+  words-first words ns zs =
+      words-from (wholeOf (getD words 0 0)) [] words nothing (keep ns zs) (agrees-nothing M m _) (λ e. refl)
 
   -- ---- the nodes that the pass counts
 
   pub agrees-end :
-      (whole : ℕ) (before words : List ℕ) (s : Seen) (p : ℕ) → Agrees M r whole before s → Heads whole before (getD words 0 0) →
-      Run (r .index) s p words → Agrees M r whole (reverseAux words before) (seenEnd (r .index) s p words)
+      (whole : ℕ) (before words : List ℕ) (s : Seen) (p : ℕ) → Agrees M m whole before s → Heads whole before (getD words 0 0) →
+      Run (m .index) s p words → Agrees M m whole (reverseAux words before) (seenEnd (m .index) s p words)
   unfolding seenEnd
   agrees-end whole before [] s p a first g = a
   agrees-end whole before (w ∷ ws) s p a first g =
-      agrees-end whole (w ∷ before) ws (seenWith (r .index) s w p) (suc p) (agrees-with M r i whole before s w p a (g .0) first)
+      agrees-end whole (w ∷ before) ws (seenWith (m .index) s w p) (suc p) (agrees-with M m i whole before s w p a (g .0) first)
       (λ e. absurd (omega (arith, ap length e))) (g .1)
 
-module _ (M : Model) (r : ModelRead) (i : Indexed M r) (words : List ℕ) where
-  pub nodes-end : Run (r .index) nothing 0 words → seenEnd (r .index) nothing 0 words .nodes ≡ countOf (tableNumber node) words
+module _ (M : Model) (m : ModelKept) (i : Indexed M m) (words : List ℕ) where
+  pub nodes-end : Run (m .index) nothing 0 words → seenEnd (m .index) nothing 0 words .nodes ≡ countOf (tableNumber node) words
   nodes-end g =
-      let a = agrees-end M r i (wholeOf (getD words 0 0)) [] words nothing 0 (agrees-nothing M r _) (λ e. refl) g in
+      let a = agrees-end M m i (wholeOf (getD words 0 0)) [] words nothing 0 (agrees-nothing M m _) (λ e. refl) g in
       a .tallies .nodes ∙ count-reversed (tableNumber node) words
 
-  pub nodes-scanned : scanned (r .index) words .fault ≡ fault.None → scanned (r .index) words .seen .nodes ≡ countOf (tableNumber node) words
+  pub nodes-scanned : (ns : List ℕ) (zs : List ℤ) → scanned (m .index) words ns zs .fault ≡ fault.None →
+      scanned (m .index) words ns zs .seen .nodes ≡ countOf (tableNumber node) words
   unfolding scanned
-  nodes-scanned n =
-      let g = run-of (r .index) nothing (replicate 64 noEntry) (replicate 64 universe) 0 words n in
-      ap (λ (t : Scanned). t .seen .nodes) (end-of (r .index) nothing (replicate 64 noEntry) (replicate 64 universe) 0 words g) ∙ nodes-end g
+  nodes-scanned ns zs n =
+      let g = run-of (m .index) nothing (keep ns zs) 0 words n in
+      ap (λ (t : Pass). t .seen .nodes) (end-of (m .index) nothing (keep ns zs) 0 words g) ∙ nodes-end g
 
 -- ---- on the whole file
 
@@ -183,10 +171,11 @@ numbers-first nodes p (w ∷ ws) =
     number-first (not (isTable successor w || isTable startNode w) || ltb (numberOf w) nodes) p (numberChecks nodes (suc p) ws)
     (numbersAnswer nodes (suc p) ws) (numbers-first nodes (suc p) ws)
 
-pub read-says : (M : Model) (r : ModelRead) → Indexed M r → (words : List ℕ) →
-    let s : Scanned = scanned (r .index) words in
-    First (readChecks M words) (λ (_ : Unit {0}). Unit {0}) (tableAnswer (answerOf (s .fault) (s .place) (numbersAnswer (s .seen .nodes) 0 words)))
+pub read-says : (M : Model) (m : ModelKept) → Indexed M m → (words ns : List ℕ) (zs : List ℤ) →
+    let q : Pass = scanned (m .index) words ns zs in
+    First (readChecks M words) (λ (_ : Unit {0}). Unit {0}) (tableAnswer (answerOf (q .fault) (q .place) (numbersAnswer (q .seen .nodes) 0 words)))
 unfolding readChecks
-read-says M r i words =
-    words-first M r i words (numberChecks (countOf (tableNumber node) words) 0 words) (numbersAnswer (scanned (r .index) words .seen .nodes) 0 words)
-    λ n. rw (nodes-scanned M r i words n) (numbers-first (countOf (tableNumber node) words) 0 words)
+read-says M m i words ns zs =
+    words-first M m i words ns zs (numberChecks (countOf (tableNumber node) words) 0 words)
+    (numbersAnswer (scanned (m .index) words ns zs .seen .nodes) 0 words)
+    λ n. rw (nodes-scanned M m i words ns zs n) (numbers-first (countOf (tableNumber node) words) 0 words)

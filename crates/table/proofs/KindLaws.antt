@@ -24,10 +24,14 @@ pub by-kind : (P : TableKind → Type 0) (w : ℕ) → P noKind → ((k : TableK
 unfolding tableKindOf
 by-kind P w n f = by-among tableNumber noKind P w tableKinds n f
 
--- a word with none of the numbers 5 and 7 to 12 is of no kind
+-- a word has not the number of a kind
+abbrev pub IsNot : TableKind → ℕ → Type 0
+IsNot k w = kind w ≡ tableNumber k → ⊥
+
+-- a word with none of these numbers is of no kind
 pub no-kind :
-    (w : ℕ) → (kind w ≡ 5 → ⊥) → (kind w ≡ 7 → ⊥) → (kind w ≡ 8 → ⊥) → (kind w ≡ 9 → ⊥) → (kind w ≡ 10 → ⊥) → (kind w ≡ 11 → ⊥) →
-    (kind w ≡ 12 → ⊥) → tableKindOf w ≡ noKind
+    (w : ℕ) → IsNot nodeBound w → IsNot tableHead w → IsNot node w → IsNot value w → IsNot blocked w → IsNot successor w →
+    IsNot startNode w → tableKindOf w ≡ noKind
 no-kind w b h n v a s c = by-kind (λ (k : TableKind). k ≡ noKind) w refl other
   where
     other : (k : TableKind) → kind w ≡ tableNumber k → k ≡ noKind

@@ -1,5 +1,6 @@
 -- The laws of `table`, none of which uses a later one: words, the pass, the table; proofs of functions stand in folders of their own.
 pub mod KindLaws
+pub mod NodeLaws
 pub mod WordChecks
 pub mod Passing
 pub mod Limits

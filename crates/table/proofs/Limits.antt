@@ -1,105 +1,148 @@
 -- What holds of a table's words read so far while no check has failed. Assumes nothing.
-use Prim.Native.Nat.{ℕ, _+_, _≤_, _<_}
+use Prim.Native.Nat.{ℕ, suc, _+_, _-_, _≤_, _<_}
 use mathlib.Core.Path.{_≡_, refl}
-use mathlib.Core.Bool.{Bool, true, false, cond, _&&_, _||_}
+use mathlib.Core.Logic.{_≢_}
+use mathlib.Core.Bool.{Bool, true, false, not, cond, _||_}
 use native.Mathlib.Omega.{arith}
-use borrow.Author.Tests.{ltb-true, leb-true, eqb-false, eq-eqb}
-use lib.Dec.{T, eqb, leb, leb→le, eqb→eq}
+use borrow.Author.Tests.{ltb-true, eqb-true, eqb-false}
+use lib.Dec.{T, eqb}
 use lib.ListN.{getD}
-use Rattle.zone.specs.Words.{bits, kind, boundOf, goodBound?}
-use Rattle.zone.proofs.Bools.{false-true, both, left-true, right-true}
-use Rattle.zone.proofs.WordLaws.{good-first, good-second}
+use Rattle.zone.specs.Words.{bits, kind, boundOf}
+use Rattle.zone.proofs.Bools.{false-true, left-true, right-true}
 use Rattle.model.specs.TableKinds.{TableKind, noKind, tableHead, node, nodeBound, value, blocked, successor, startNode}
-use Rattle.model.specs.TableKinds.{tableKindOf}
-use Rattle.model.specs.Grammar.{tableFollows, tableFollows?}
+use Rattle.model.specs.TableKinds.{tableNumber, tableKinds, tableKindOf}
+use Rattle.model.specs.Grammar.{tableFollows, numbered?, tableFollows?}
+use Rattle.model.specs.Openers.{tableOpener?}
 use Rattle.model.specs.declared.index.Index.{Index}
+use Rattle.model.proofs.KindLaws.{each?, row?}
 use Rattle.table.specs.Fields.{locationOf, fields?}
 use Rattle.table.specs.Reading.{limit?}
-use Rattle.table.specs.Scan.{nothing, rowsAllowKind?, faultAt}
-use Rattle.table.specs.Scan.{firstRow, endRow, edgesAt, seenWithKind, seenWith, IndexFits, WithinLimits}
+use Rattle.table.specs.Scan.{nothing, rowsAllowKind?, faultAt, nodeOpeners, oneOf?}
+use Rattle.table.specs.Scan.{firstRow, endRow, rowsAt, edgesAt, sizeAt, withValue, withRow, seenWithKind, seenWith, IndexFits, WithinLimits, RowFits}
 use Rattle.table.specs.declared.seen.Seen.{Seen}
 use Rattle.table.specs.declared.seen.Fault.the-variants as fault
-use Rattle.table.proofs.Passing.{Passes, passes, passes-as, table}
+use Rattle.table.proofs.Passing.{Passes, passes, passes-as, bound-clocks, behind, behind-only, not-one}
 
--- ---- what stands before a word of a kind
-
--- a head stands first
-before-head : (o : ℕ) → tableFollows? o 7 ≡ true → o ≡ 16
-unfolding tableFollows
-before-head o h = eqb→eq o 16 (table (λ o n. cond (eqb n 7) (eqb o 16) true) tt o 7 h)
-
--- a bound, a value, a row and the start node stand behind a node's words
-abbrev behind? : ℕ → ℕ → Bool
-behind? o n = (eqb n 7 || eqb n 8) || (leb 8 o && leb o 11)
-
-before-row : (o n : ℕ) → (eqb n 7 || eqb n 8) ≡ false → tableFollows? o n ≡ true → (8 ≤ o) × (o ≤ 11)
-unfolding tableFollows
-before-row o n e h =
-    let ts = both (leb 8 o) (leb o 11) (by (eqb n 7 || eqb n 8) e (table behind? tt o n h)) in
-    (leb→le 8 o (ts .0), leb→le o 11 (ts .1))
-  where
-    by : (b : Bool) → b ≡ false → T (b || (leb 8 o && leb o 11)) → T (leb 8 o && leb o 11)
-    by true e t = false-true (rw e)
-    by false e t = t
+-- every kind but a bound is an opener
+opens : (k : TableKind) → tableNumber k ≢ tableNumber nodeBound → tableOpener? (tableNumber k) ≡ true
+unfolding numbered?
+opens noKind n = refl
+opens tableHead n = refl
+opens node n = refl
+opens nodeBound n = absurd (n refl)
+opens value n = refl
+opens blocked n = refl
+opens successor n = refl
+opens startNode n = refl
 
 -- ---- a word more
-none-due : (action last : ℕ) → last ≤ action → action < last → ⊥
-none-due action last l r = omega arith
 
-one-of : (b : Bool) {m n : ℕ} → m ≤ n → (m ≤ cond b n m) × (cond b n m ≤ n)
-one-of true h = omega arith
-one-of false h = omega arith
+-- none of no rows is due
+none-due : {X : Type 0} {n rows : ℕ} → rows ≡ 0 → suc n ≤ rows → X
+none-due e r = absurd (omega arith)
+
+-- there are so many rows, and they are those of actions of the location l from a on
+abbrev RowsOf : Index → ℕ → ℕ → ℕ → Type 0
+RowsOf x l a rows = 1 ≤ rows → (firstRow x l ≤ a) × (a + rows ≤ endRow x l)
+
+module _ (x : Index) (fits : IndexFits x) (l : ℕ) (h : l < x .locations) where
+  -- what the size of the first row asks
+  row-fits : (a rows : ℕ) → a + rows ≤ 32 → RowsOf x l a rows → RowFits x a rows
+  unfolding firstRow endRow
+  row-fits a rows few at =
+      record {
+        action = few;
+        edges = λ r. let there = at r in let edges = fits .edges l a h (there .0) (omega arith) in omega arith;
+      }
+
+  row-size : (a rows : ℕ) → RowsOf x l a rows → (sizeAt x a rows ≤ 128) × (1 ≤ rows → 1 ≤ sizeAt x a rows)
+  unfolding sizeAt edgesAt firstRow endRow
+  row-size a rows at = by (eqb rows 0) (λ e. eqb-true rows 0 e) (λ e. eqb-false rows 0 e)
+    where
+      by : (c : Bool) → (c ≡ true → rows ≡ 0) → (c ≡ false → rows ≢ 0) →
+          (cond c 0 (edgesAt x a) ≤ 128) × (1 ≤ rows → 1 ≤ cond c 0 (edgesAt x a))
+      by true e n = (omega arith, λ r. none-due (e refl) r)
+      by false e n =
+          let some : rows ≢ 0 = n refl in
+          let r : 1 ≤ rows = omega arith in
+          let there = at r in
+          let edges = fits .edges l a h (there .0) (omega arith) in
+          (omega arith, λ r. omega arith)
+
+  -- behind a value
+  rows-few : firstRow x l + rowsAt x l ≤ endRow x l
+  unfolding firstRow endRow rowsAt
+  rows-few = let actions = fits .actions l h in by (getD (x .targets) l false) (actions .0)
+    where
+      by : (c : Bool) {m n : ℕ} → m ≤ n → m + cond c 0 (n - m) ≤ n
+      by true e = omega arith
+      by false e = omega arith
+
+  all-rows : RowsOf x l (firstRow x l) (rowsAt x l)
+  all-rows r = let few = rows-few in (omega arith, few)
+
+  rows-limit : firstRow x l + rowsAt x l ≤ 32
+  unfolding endRow
+  rows-limit = let few = rows-few in let actions = fits .actions l h in omega arith
+
+  pub value-fits : RowFits x (firstRow x l) (rowsAt x l)
+  value-fits = row-fits (firstRow x l) (rowsAt x l) rows-limit all-rows
+
+-- where such rows are due and none is begun
+first-limits :
+    (x : Index) (s : Seen) → IndexFits x → tableOpener? (s .opener) ≡ true → oneOf? nodeOpeners (s .opener) ≡ true → s .nodes ≤ 64 →
+    (1 ≤ s .nodes) × (s .location < x .locations) → s .action + s .rows ≤ 32 → RowsOf x (s .location) (s .action) (s .rows) →
+    s .size ≡ sizeAt x (s .action) (s .rows) → s .begun ≡ 0 → WithinLimits x s
+first-limits x s fits o on most there few at es eb =
+    let size = row-size x fits (s .location) (there .1) (s .action) (s .rows) at in
+    record {
+      opener = o;
+      nodes = most;
+      node = λ a. there;
+      begun = λ r. (on, rw (es, eb) (size .1 r));
+      size = rw es (size .0);
+      action = few;
+      rows = λ r. at (omega arith);
+    }
 
 module _ (x : Index) (s : Seen) (fits : IndexFits x) (h : WithinLimits x s) where
-  -- the last node is there, and its location exists
-  node-behind : (n : ℕ) → (eqb n 7 || eqb n 8) ≡ false → tableFollows? (s .opener) n ≡ true → (1 ≤ s .nodes) × (s .location < x .locations)
-  node-behind n e g = let o = before-row (s .opener) n e g in h .node (omega arith) (omega arith)
+  -- behind a kind that stands behind a node's words alone, the last node is there, and its location exists
+  node-behind :
+      (k : TableKind) → T (each? (row? tableNumber tableFollows (λ o n. not (eqb n (tableNumber k)) || oneOf? nodeOpeners o)) tableKinds) →
+      tableFollows? (s .opener) (tableNumber k) ≡ true → (1 ≤ s .nodes) × (s .location < x .locations)
+  node-behind k t g = h .node (behind k (s .opener) g nodeOpeners t)
 
-  -- the action of a row that is due
-  due : s .action < s .last → (getD (x .edges) (s .action) 0 < getD (x .edges) (s .action + 1) 0) × (getD (x .edges) (s .action + 1) 0 ≤ 128)
-  unfolding endRow
-  due r =
-      let rows = h .rows r in
-      let there = h .node (rows .0) (rows .1) in
-      let end : s .last ≡ getD (x .actions) (s .location + 1) 0 = rows .3 in
-      fits .edges (s .location) (s .action) (there .1) (rows .2) (omega arith)
+  -- behind the first row
+  module _ (r : 1 ≤ s .rows) where
+    there : (1 ≤ s .nodes) × (s .location < x .locations)
+    there = h .node (h .begun r .0)
 
-  -- behind a complete row
-  row-limits : (t : Seen) → s .action < s .last → t .nodes ≡ s .nodes → t .location ≡ s .location → t .action ≡ s .action + 1 → t .last ≡ s .last →
-      t .begun ≡ 0 → 9 ≤ t .opener → t .opener ≤ 11 → WithinLimits x t
-  unfolding endRow edgesAt
-  row-limits t r en el ea et eb lo hi =
-      let rows = h .rows r in
-      let there = h .node (rows .0) (rows .1) in
-      let end : s .last ≡ getD (x .actions) (s .location + 1) 0 = rows .3 in
-      let last = h .last in
-      let nodes = h .nodes in
-      record {
-        opener = omega arith;
-        nodes = omega arith;
-        node = λ a b. rw (en, el) there;
-        last = omega arith;
-        action = omega arith;
-        rows = λ q. rw (el, ea, et) (omega arith, omega arith, omega arith, end);
-        begun = λ q.
-            let edges = fits .edges (s .location) (s .action + 1) (there .1) (omega arith) (omega arith) in
-            rw (eb, ea) (omega arith);
-      }
+    few : s .action + 1 + (s .rows - 1) ≤ 32
+    few = let action = h .action in omega arith
+
+    rows-behind : RowsOf x (s .location) (s .action + 1) (s .rows - 1)
+    rows-behind q = let rows = h .rows (omega arith) in (omega arith, omega arith)
+
+    next-fits : RowFits x (s .action + 1) (s .rows - 1)
+    next-fits = row-fits x fits (s .location) (there .1) (s .action + 1) (s .rows - 1) few rows-behind
+
+    row-limits : (o : ℕ) → tableOpener? o ≡ true → oneOf? nodeOpeners o ≡ true → WithinLimits x (withRow x s o)
+    row-limits o opened on = first-limits x (withRow x s o) fits opened on (h .nodes) there few rows-behind refl refl
 
   module _ (w p : ℕ) where
     head-limits : Passes tableHead x s w → WithinLimits x (seenWithKind tableHead x s w p)
-    unfolding seenWithKind
+    unfolding seenWithKind tableFollows numbered?
     head-limits g =
-        let first : s .opener ≡ 16 = before-head (s .opener) (g .follows) in
-        let none : s .action < s .last → ⊥ = λ r. let o = h .rows r .1 in omega arith in
+        let first : s .opener ≡ tableNumber noKind = behind-only tableHead (s .opener) (g .follows) noKind tt in
+        let none : 1 ≤ s .rows → ⊥ = λ r. not-one nodeOpeners (s .opener) (tableNumber noKind) (h .begun r .0) refl first in
         record {
-          opener = omega arith;
+          opener = opens tableHead (λ e. omega arith);
           nodes = h .nodes;
-          node = λ a b. absurd (omega arith);
-          last = h .last;
-          action = h .action;
-          rows = λ r. absurd (none r);
+          node = λ a. false-true a;
           begun = λ r. absurd (none r);
+          size = h .size;
+          action = h .action;
+          rows = h .rows;
         }
 
     node-limits : Passes node x s w → WithinLimits x (seenWithKind node x s w p)
@@ -107,86 +150,81 @@ module _ (x : Index) (s : Seen) (fits : IndexFits x) (h : WithinLimits x s) wher
     node-limits g =
         let few : s .nodes < 64 = ltb-true _ _ (g .limit) in
         let there : locationOf w < x .locations = ltb-true _ _ (right-true (eqb (bits 23 0 w) 0) _ (g .fields)) in
-        let done : s .last ≤ s .action = leb-true _ _ (g .rows) in
+        let done : s .rows ≡ 0 = eqb-true _ _ (g .rows) in
         record {
-          opener = omega arith;
+          opener = opens node (λ e. omega arith);
           nodes = omega arith;
-          node = λ a b. (omega arith, there);
-          last = h .last;
+          node = λ a. (omega arith, there);
+          begun = λ r. none-due done r;
+          size = h .size;
           action = h .action;
-          rows = λ r. absurd (none-due _ _ done r);
-          begun = λ r. absurd (none-due _ _ done r);
+          rows = λ r. none-due done r;
         }
 
     value-limits : Passes value x s w → WithinLimits x (seenWithKind value x s w p)
-    unfolding seenWithKind firstRow endRow edgesAt
+    unfolding seenWithKind tableFollows numbered?
     value-limits g =
-        let there : (1 ≤ s .nodes) × (s .location < x .locations) = node-behind 9 refl (g .follows) in
-        let actions = fits .actions (s .location) (there .1) in
-        let first = one-of (getD (x .targets) (s .location) false) (actions .0) in
-        record {
-          opener = omega arith;
-          nodes = h .nodes;
-          node = λ a b. there;
-          last = actions .1;
-          action = first .1;
-          rows = λ r. (omega arith, omega arith, first .0, refl);
-          begun = λ r. let edges = fits .edges (s .location) (firstRow x (s .location)) (there .1) (first .0) r in omega arith;
-        }
+        let there : (1 ≤ s .nodes) × (s .location < x .locations) = node-behind value tt (g .follows) in
+        first-limits x (withValue x s) fits (opens value (λ e. omega arith)) refl (h .nodes) there
+        (rows-limit x fits (s .location) (there .1)) (all-rows x fits (s .location) (there .1)) refl refl
 
     blocked-limits : Passes blocked x s w → WithinLimits x (seenWithKind blocked x s w p)
-    unfolding seenWithKind rowsAllowKind?
+    unfolding seenWithKind rowsAllowKind? numbered?
     blocked-limits g =
-        row-limits (seenWithKind blocked x s w p) (ltb-true _ _ (left-true _ _ (g .rows))) refl refl refl refl refl (omega arith) (omega arith)
+        row-limits (ltb-true _ _ (left-true _ _ (g .rows))) (tableNumber blocked) (opens blocked (λ e. omega arith)) refl
 
     successor-limits : Passes successor x s w → WithinLimits x (seenWithKind successor x s w p)
-    unfolding seenWithKind rowsAllowKind?
-    successor-limits g = by (eqb (s .begun + 1) (edgesAt x (s .action))) (λ e. eqb-false _ _ e)
+    unfolding seenWithKind rowsAllowKind? numbered?
+    successor-limits g = by (eqb (s .begun + 1) (s .size)) (λ e. eqb-false _ _ e)
       where
-        r : s .action < s .last
+        r : 1 ≤ s .rows
         r = ltb-true _ _ (g .rows)
+
+        opened : tableOpener? (tableNumber successor) ≡ true
+        opened = opens successor (λ e. omega arith)
 
         -- the row is complete, or it is not
         by :
-            (b : Bool) → (b ≡ false → s .begun + 1 ≡ edgesAt x (s .action) → ⊥) →
+            (c : Bool) → (c ≡ false → s .begun + 1 ≢ s .size) →
             WithinLimits x record {
-              opener = 11;
+              opener = tableNumber successor;
               whole = s .whole;
               nodes = s .nodes;
               location = s .location;
-              action = cond b (s .action + 1) (s .action);
-              last = s .last;
-              begun = cond b 0 (s .begun + 1);
+              target = s .target;
+              action = cond c (s .action + 1) (s .action);
+              rows = cond c (s .rows - 1) (s .rows);
+              size = cond c (sizeAt x (s .action + 1) (s .rows - 1)) (s .size);
+              begun = cond c 0 (s .begun + 1);
               start = s .start;
               place = s .place;
             }
-        by true n = row-limits _ r refl refl refl refl refl (omega arith) (omega arith)
+        by true n = row-limits r (tableNumber successor) opened refl
         by false n =
-            let rows = h .rows r in
-            let begun = h .begun r in
-            let more = n refl in
+            let begun = h .begun r .1 in
+            let more : s .begun + 1 ≢ s .size = n refl in
             record {
-              opener = omega arith;
+              opener = opened;
               nodes = h .nodes;
-              node = λ a b. h .node (rows .0) (rows .1);
-              last = h .last;
+              node = λ a. there r;
+              begun = λ q. (refl, omega arith);
+              size = h .size;
               action = h .action;
-              rows = λ q. (omega arith, omega arith, rows .2, rows .3);
-              begun = λ q. omega arith;
+              rows = h .rows;
             }
 
     start-limits : Passes startNode x s w → WithinLimits x (seenWithKind startNode x s w p)
-    unfolding seenWithKind rowsAllowKind?
+    unfolding seenWithKind rowsAllowKind? tableFollows numbered?
     start-limits g =
-        let done : s .last ≤ s .action = leb-true _ _ (g .rows) in
+        let done : s .rows ≡ 0 = eqb-true _ _ (g .rows) in
         record {
-          opener = omega arith;
+          opener = opens startNode (λ e. omega arith);
           nodes = h .nodes;
-          node = λ a b. node-behind 12 refl (g .follows);
-          last = h .last;
+          node = λ a. node-behind startNode tt (g .follows);
+          begun = λ r. none-due done r;
+          size = h .size;
           action = h .action;
-          rows = λ r. absurd (none-due _ _ done r);
-          begun = λ r. absurd (none-due _ _ done r);
+          rows = λ r. none-due done r;
         }
 
     limits-kind : (k : TableKind) → Passes k x s w → WithinLimits x (seenWithKind k x s w p)
@@ -201,14 +239,15 @@ module _ (x : Index) (s : Seen) (fits : IndexFits x) (h : WithinLimits x s) wher
     limits-kind startNode g = start-limits g
 
 pub limits-nothing : (x : Index) → WithinLimits x nothing
+unfolding numbered?
 limits-nothing x = record {
-  opener = omega arith;
+  opener = opens noKind (λ e. omega arith);
   nodes = omega arith;
-  node = λ a b. absurd (omega arith);
-  last = omega arith;
+  node = λ a. false-true a;
+  begun = λ r. absurd (omega arith);
+  size = omega arith;
   action = omega arith;
   rows = λ r. absurd (omega arith);
-  begun = λ r. absurd (omega arith);
 }
 
 module _ (x : Index) (s : Seen) (w : ℕ) (fits : IndexFits x) (h : WithinLimits x s) (f : faultAt s (x .clocks) (x .locations) w ≡ fault.None) where
@@ -219,34 +258,29 @@ module _ (x : Index) (s : Seen) (w : ℕ) (fits : IndexFits x) (h : WithinLimits
   -- ---- what a word that fails no check says
 
   -- there is room for a node
-  pub node-room : kind w ≡ 8 → s .nodes < 64
+  pub node-room : kind w ≡ tableNumber node → s .nodes < 64
   unfolding limit?
   node-room e = ltb-true _ _ (passes-as node x s w e f .limit)
 
   -- a value stands behind a node, whose location exists
-  pub value-node : kind w ≡ 9 → (1 ≤ s .nodes) × (s .location < x .locations)
-  value-node e = node-behind x s fits h 9 refl (passes-as value x s w e f .follows)
+  pub value-node : kind w ≡ tableNumber value → (1 ≤ s .nodes) × (s .location < x .locations)
+  unfolding tableFollows numbered?
+  value-node e = node-behind x s fits h value tt (passes-as value x s w e f .follows)
 
-  -- the clocks of a bound
-  pub bound-clocks : kind w ≡ 5 → (boundOf w .i < 5) × (boundOf w .j < 5)
-  unfolding goodBound? fields?
-  bound-clocks e =
-      let good : goodBound? (x .clocks) w ≡ true = rw (eq-eqb _ _ e) (passes-as nodeBound x s w e f .fields) in
-      let clocks = fits .clocks in
-      let i = good-first (x .clocks) w good in
-      let j = good-second (x .clocks) w good in
-      (omega arith, omega arith)
+  -- a bound stands behind a node, and has two of five clocks
+  pub bound-asks : kind w ≡ tableNumber nodeBound → (1 ≤ s .nodes) × (boundOf w .i < 5) × (boundOf w .j < 5)
+  unfolding tableFollows numbered?
+  bound-asks e =
+      let g = passes-as nodeBound x s w e f in
+      let clocks = bound-clocks x s w (fits .clocks) g in
+      (node-behind x s fits h nodeBound tt (g .follows) .0, clocks .0, clocks .1)
 
-  -- a successor stands in a row that is due
-  pub successor-due : kind w ≡ 11 → s .action < s .last
+  -- a word of a row stands where one is due
+  pub blocked-asks : kind w ≡ tableNumber blocked → (1 ≤ s .rows) × RowFits x (s .action + 1) (s .rows - 1)
   unfolding rowsAllowKind?
-  successor-due e = ltb-true _ _ (passes-as successor x s w e f .rows)
+  blocked-asks e = let r = ltb-true _ _ (left-true _ _ (passes-as blocked x s w e f .rows)) in (r, next-fits x s fits h r)
 
-  pub successor-edges : kind w ≡ 11 → (getD (x .edges) (s .action) 0 ≤ getD (x .edges) (s .action + 1) 0) × (s .action < 32) × (s .begun < 128)
-  unfolding edgesAt
-  successor-edges e =
-      let r = successor-due e in
-      let edges = due x s fits h r in
-      let begun = h .begun r in
-      let last = h .last in
-      (omega arith, omega arith, omega arith)
+  pub successor-asks :
+      kind w ≡ tableNumber successor → (1 ≤ s .rows) × RowFits x (s .action + 1) (s .rows - 1) × (s .begun < s .size) × (s .size ≤ 128)
+  unfolding rowsAllowKind?
+  successor-asks e = let r = ltb-true _ _ (passes-as successor x s w e f .rows) in (r, next-fits x s fits h r, h .begun r .1, h .size)

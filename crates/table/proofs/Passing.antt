@@ -1,18 +1,23 @@
 -- A word that fails no check, and what may stand before it. Assumes nothing.
-use Prim.Native.Nat.{ℕ}
-use mathlib.Core.Path.{_≡_, refl, ap, subst}
+use Prim.Native.Nat.{ℕ, _≤_, _<_}
+use mathlib.Core.Path.{_≡_, refl, sym, ap, subst, _∙_}
+use mathlib.Core.Logic.{_≢_}
 use mathlib.Core.Bool.{Bool, true, false, not, cond, _&&_, _||_}
+use mathlib.Core.List.{List}
+use native.Mathlib.Omega.{arith}
+use borrow.Author.Tests.{eq-eqb}
 use lib.Dec.{T, eqb, eqb→eq}
-use Rattle.zone.specs.Words.{kind}
+use Rattle.zone.specs.Words.{kind, boundOf, goodBound?}
 use Rattle.zone.proofs.Bools.{false-true, is-true, left-true, right-true}
-use Rattle.model.specs.TableKinds.{TableKind, tableNumber, tableKinds, tableKindOf}
+use Rattle.zone.proofs.WordLaws.{good-first, good-second}
+use Rattle.model.specs.TableKinds.{TableKind, noKind, tableHead, node, nodeBound, value, tableNumber, tableKinds, tableKindOf}
 use Rattle.model.specs.Grammar.{tableFollows, tableFollows?}
 use Rattle.model.specs.declared.index.Index.{Index}
 use Rattle.model.proofs.TableRule.{same?, same}
 use Rattle.model.proofs.KindLaws.{each?, row?, each-row}
 use Rattle.table.specs.Fields.{fields?}
 use Rattle.table.specs.Reading.{limit?}
-use Rattle.table.specs.Scan.{rowsAllowKind?, rowsAllowAt?, fieldsAt?, limitAt?, faultAt}
+use Rattle.table.specs.Scan.{rowsAllowKind?, rowsAllowAt?, fieldsAt?, limitAt?, faultAt, oneOf?}
 use Rattle.table.specs.declared.seen.Seen.{Seen}
 use Rattle.table.specs.declared.seen.Fault.{Fault}
 use Rattle.table.specs.declared.seen.Fault.the-variants as fault
@@ -64,22 +69,55 @@ pub passes-as :
     Passes k x s w
 passes-as k x s w e h = subst (λ (k : TableKind). Passes k x s w) (kind-is k w e) (passes x s w h)
 
+-- the clocks of a bound
+pub bound-clocks : (x : Index) (s : Seen) (w : ℕ) → x .clocks ≤ 4 → Passes nodeBound x s w → (boundOf w .i < 5) × (boundOf w .j < 5)
+unfolding goodBound? fields?
+bound-clocks x s w clocks g =
+    let good : goodBound? (x .clocks) w ≡ true = rw (eq-eqb _ _ (g .named)) (g .fields) in
+    let i = good-first (x .clocks) w good in
+    let j = good-second (x .clocks) w good in
+    (omega arith, omega arith)
+
 -- ---- what may follow what
 
 pub table : (P : ℕ → ℕ → Bool) → T (each? (row? tableNumber tableFollows P) tableKinds) → (o n : ℕ) → tableFollows? o n ≡ true → T (P o n)
 unfolding tableFollows?
 table P t o n h = each-row tableNumber tableFollows P tableKinds o n t h
 
+-- a kind stands behind these alone, or behind one alone
+module _ (k : TableKind) (o : ℕ) (h : tableFollows? o (tableNumber k) ≡ true) where
+  pub behind :
+      (ks : List TableKind) → T (each? (row? tableNumber tableFollows (λ o n. not (eqb n (tableNumber k)) || oneOf? ks o)) tableKinds) →
+      oneOf? ks o ≡ true
+  behind ks t =
+      let s : T (not (eqb (tableNumber k) (tableNumber k)) || oneOf? ks o) =
+      table (λ o n. not (eqb n (tableNumber k)) || oneOf? ks o) t o (tableNumber k) h in
+      is-true (oneOf? ks o) (rw (eq-eqb (tableNumber k) (tableNumber k) refl) at s)
+
+  pub behind-only :
+      (j : TableKind) → T (each? (row? tableNumber tableFollows (λ o n. not (eqb n (tableNumber k)) || eqb o (tableNumber j))) tableKinds) →
+      o ≡ tableNumber j
+  behind-only j t =
+      let s : T (not (eqb (tableNumber k) (tableNumber k)) || eqb o (tableNumber j)) =
+      table (λ o n. not (eqb n (tableNumber k)) || eqb o (tableNumber j)) t o (tableNumber k) h in
+      eqb→eq o (tableNumber j) (rw (eq-eqb (tableNumber k) (tableNumber k) refl) at s)
+
+-- the number of one of some kinds is not a number of none of them
+pub not-one : (ks : List TableKind) (o n : ℕ) → oneOf? ks o ≡ true → oneOf? ks n ≡ false → o ≢ n
+not-one ks o n h e q = false-true (sym e ∙ ap (oneOf? ks) (sym q) ∙ h)
+
 -- a head stands first, and nothing else does
-pub head-first : (o n : ℕ) → tableFollows? o n ≡ true → eqb o 16 ≡ eqb n 7
+pub head-first : (o n : ℕ) → tableFollows? o n ≡ true → eqb o (tableNumber noKind) ≡ eqb n (tableNumber tableHead)
 unfolding tableFollows
-head-first o n h = same (eqb o 16) (eqb n 7) (is-true _ (table (λ o n. same? (eqb o 16) (eqb n 7)) tt o n h))
+head-first o n h =
+    same (eqb o (tableNumber noKind)) (eqb n (tableNumber tableHead))
+    (is-true _ (table (λ o n. same? (eqb o (tableNumber noKind)) (eqb n (tableNumber tableHead))) tt o n h))
 
 -- bounds and the value stand behind a node's word
-pub before-bound : (o : ℕ) → tableFollows? o 5 ≡ true → o ≡ 8
+pub before-bound : (o : ℕ) → tableFollows? o (tableNumber nodeBound) ≡ true → o ≡ tableNumber node
 unfolding tableFollows
-before-bound o h = eqb→eq o 8 (table (λ o n. not (eqb n 5) || eqb o 8) tt o 5 h)
+before-bound o h = behind-only nodeBound o h node tt
 
-pub before-value : (o : ℕ) → tableFollows? o 9 ≡ true → o ≡ 8
+pub before-value : (o : ℕ) → tableFollows? o (tableNumber value) ≡ true → o ≡ tableNumber node
 unfolding tableFollows
-before-value o h = eqb→eq o 8 (table (λ o n. not (eqb n 9) || eqb o 8) tt o 9 h)
+before-value o h = behind-only value o h node tt

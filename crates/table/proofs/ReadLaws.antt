@@ -1,46 +1,27 @@
--- Laws of what the checks of a table's words are made of: what may follow what, the rows that are due, the count of nodes. Assumes nothing.
-use Prim.Native.Nat.{ℕ, suc, _+_, _≤_, _<_}
+-- Laws of what the checks of a table's words are made of: the rows that are due, the opener and the location, the count of nodes. Assumes nothing.
+use Prim.Native.Nat.{ℕ, suc, _+_, _<_}
 use mathlib.Core.Path.{_≡_, refl, sym, ap, _∙_}
-use mathlib.Core.Bool.{Bool, true, false, not, cond, _&&_, _||_}
+use mathlib.Core.Logic.{_≢_}
+use mathlib.Core.Bool.{Bool, true, false, cond}
 use mathlib.Core.List.{List, [], _∷_}
 use native.Mathlib.Omega.{arith}
-use borrow.Author.Tests.{eqb-false, eq-eqb}
-use lib.Dec.{T, eqb, leb, leb→le}
-use lib.ListN.{length, drop}
+use borrow.Author.Tests.{eqb-false}
+use lib.Dec.{T, eqb}
+use lib.ListN.{getD, length, drop}
 use lib.Seq.{drop-drop}
 use Rattle.zone.specs.Words.{kind}
-use Rattle.zone.proofs.Bools.{by-test, false-true, both}
+use Rattle.zone.proofs.Bools.{by-test}
 use Rattle.model.specs.TableKinds.{TableKind, noKind, tableHead, node, nodeBound, value, blocked, successor, startNode, tableNumber}
-use Rattle.model.specs.TableKinds.{tableNumber, tableKinds, isTable, tableKindOf}
+use Rattle.model.specs.TableKinds.{tableNumber, isTable, tableKindOf}
 use Rattle.model.specs.Before.{openerFrom, countOf}
-use Rattle.model.specs.Grammar.{tableFollows, numbered?, mayFollow?, tableFollows?}
 use Rattle.model.specs.Model.{Action, Model}
 use Rattle.model.specs.States.{locationAt}
-use Rattle.model.proofs.KindLaws.{each?, row?, each-row}
 use Rattle.model.proofs.ZoneLaws.{All, empty, more}
 use Rattle.model.proofs.WellFormed.{FormedAction, WellFormed}
 use Rattle.table.specs.Fields.{locationOf, fields?}
 use Rattle.table.specs.Table.{rowActions, nodeOf, nodesOf}
-use Rattle.table.specs.Reading.{lastLocation, Due, edgeCounts, allDue, dueAfterBlocked, dueAfterSuccessor, dueWith, due}
+use Rattle.table.specs.Reading.{lastLocation, Due, edgeCounts, allDue, dueAfterRow, dueAfterSuccessor, dueWith, due}
 use Rattle.table.proofs.KindLaws.{kind-is, by-kind}
-
--- ---- what a word may stand behind
-
--- the openers that a kind may stand behind are numbered from low to high
-pub between :
-    (n low high : ℕ) → T (each? (row? tableNumber tableFollows (λ o m. not (eqb m n) || (leb low o && leb o high))) tableKinds) → (o : ℕ) →
-    tableFollows? o n ≡ true → (low ≤ o) × (o ≤ high)
-unfolding tableFollows?
-between n low high t o h =
-    let s : T (not (eqb n n) || (leb low o && leb o high)) =
-    each-row tableNumber tableFollows (λ o m. not (eqb m n) || (leb low o && leb o high)) tableKinds o n t h in
-    let (l, u) = both (leb low o) (leb o high) (rw (eq-eqb n n refl) at s) in
-    (leb→le low o l, leb→le o high u)
-
--- a node's value stands before the next node
-pub no-node : (o : ℕ) → tableFollows? o 8 ≡ true → o ≡ 8 → ⊥
-unfolding tableFollows? mayFollow? numbered? tableFollows
-no-node o h e = false-true (rw e at h)
 
 -- ---- the rows that are due
 
@@ -52,20 +33,24 @@ Lacking begun (n ∷ ns) = (begun < n) × Lacking 0 ns
 abbrev pub LackingDue : Due → Type 0
 LackingDue d = Lacking (d .begun) (d .rows)
 
-lacking-blocked : (begun : ℕ) (ns : List ℕ) → Lacking begun ns → LackingDue (dueAfterBlocked ns)
-unfolding dueAfterBlocked
-lacking-blocked begun [] h = tt
-lacking-blocked begun (n ∷ ns) h = h .1
+lacking-row : (begun : ℕ) (ns : List ℕ) → Lacking begun ns → Lacking 0 (drop 1 ns)
+lacking-row begun [] h = tt
+lacking-row begun (n ∷ ns) h = h .1
 
-lacking-successor : (begun : ℕ) (ns : List ℕ) → Lacking begun ns → LackingDue (dueAfterSuccessor begun ns)
-unfolding dueAfterSuccessor
-lacking-successor begun [] h = tt
-lacking-successor begun (n ∷ ns) h =
-    by-test LackingDue (eqb (suc begun) n) _ _ (λ e. h .1)
-    λ e. (next (h .0) (eqb-false (suc begun) n e), h .1)
+lacking-successor : (begun : ℕ) (ns : List ℕ) → Lacking begun ns →
+    let done : Bool = eqb (suc begun) (getD ns 0 0) in Lacking (cond done 0 (suc begun)) (cond done (drop 1 ns) ns)
+lacking-successor begun ns h = by (eqb (suc begun) (getD ns 0 0)) (λ e. eqb-false (suc begun) (getD ns 0 0) e)
   where
-    next : begun < n → (suc begun ≡ n → ⊥) → suc begun < n
-    next l m = omega arith
+    more-left : (ns : List ℕ) → Lacking begun ns → suc begun ≢ getD ns 0 0 → Lacking (suc begun) ns
+    more-left [] h e = tt
+    more-left (n ∷ ns) h e = (less (h .0) e, h .1)
+      where
+        less : begun < n → suc begun ≢ n → suc begun < n
+        less l m = omega arith
+
+    by : (c : Bool) → (c ≡ false → suc begun ≢ getD ns 0 0) → Lacking (cond c 0 (suc begun)) (cond c (drop 1 ns) ns)
+    by true e = lacking-row begun ns h
+    by false e = more-left ns h (e refl)
 
 lacking-counts : (M : Model) (As : List Action) → All (FormedAction M) As → Lacking 0 (edgeCounts As)
 unfolding edgeCounts
@@ -79,13 +64,13 @@ lacking-all M l h =
     λ e. lacking-counts M (locationAt M l .actions) (h .actions l)
 
 pub lacking-with : (k : TableKind) (M : Model) (l : ℕ) (d : Due) → WellFormed M → LackingDue d → LackingDue (dueWith k M l d)
-unfolding dueWith
+unfolding dueWith dueAfterRow dueAfterSuccessor
 lacking-with noKind M l d h g = tt
 lacking-with tableHead M l d h g = tt
 lacking-with node M l d h g = tt
 lacking-with nodeBound M l d h g = tt
 lacking-with value M l d h g = lacking-all M l h
-lacking-with blocked M l d h g = lacking-blocked (d .begun) (d .rows) g
+lacking-with blocked M l d h g = lacking-row (d .begun) (d .rows) g
 lacking-with successor M l d h g = lacking-successor (d .begun) (d .rows) g
 lacking-with startNode M l d h g = tt
 
@@ -99,13 +84,13 @@ next p words w ws e =
 
 -- what the opener and the last node's location are with a word of a kind more
 abbrev pub openerWith : TableKind → ℕ → ℕ
-openerWith k o = cond (eqb (tableNumber k) 5) o (tableNumber k)
+openerWith k o = cond (eqb (tableNumber k) (tableNumber nodeBound)) o (tableNumber k)
 
 abbrev pub locationWith : TableKind → ℕ → ℕ → ℕ
-locationWith k w l = cond (eqb (tableNumber k) 8) (locationOf w) l
+locationWith k w l = cond (eqb (tableNumber k) (tableNumber node)) (locationOf w) l
 
 pub opener-with :
-    (before : List ℕ) (w : ℕ) (k : TableKind) → kind w ≡ tableNumber k → openerFrom 16 (w ∷ before) ≡ openerWith k (openerFrom 16 before)
+    (before : List ℕ) (w : ℕ) (k : TableKind) → kind w ≡ tableNumber k → openerFrom (tableNumber noKind) (w ∷ before) ≡ openerWith k (openerFrom (tableNumber noKind) before)
 unfolding openerFrom
 opener-with before w k e = rw e
 

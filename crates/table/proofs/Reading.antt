@@ -1,13 +1,15 @@
 -- What reading a table hands back: what the pass comes to, with the answer of the whole file. Assumes nothing.
-use Prim.Native.Nat.{ℕ}
-use mathlib.Core.Path.{_≡_, refl}
+use Prim.Native.Nat.{ℕ, _≤_}
+use mathlib.Core.Path.{_≡_, refl, sym, subst}
 use mathlib.Core.List.{List}
 use native.Mathlib.Omega.{arith}
+use lib.IntN.{ℤ}
 use Rattle.model.specs.Model.{Model}
 use Rattle.model.specs.Indexed.{Indexed}
 use Rattle.model.specs.declared.index.Index.{Index}
-use Rattle.model.specs.declared.read.ModelRead.{ModelRead}
-use Rattle.table.specs.Index.{scanned, numbersAnswer, answerOf, readAt, readOf}
+use Rattle.model.specs.Index.{Kept as ModelKept}
+use Rattle.table.specs.Scan.{IndexFits}
+use Rattle.table.specs.Index.{StoresFit, Pass, passOf, scanned, numbersAnswer, answerOf, readAt, readOf}
 use Rattle.table.specs.Indexed.{ReadTable, ReadFor}
 use Rattle.table.specs.declared.seen.Fault.{Fault}
 use Rattle.table.specs.declared.seen.Fault.the-variants as fault
@@ -25,22 +27,26 @@ good-only fault.Kind p whole e = let z : _≡_ {A = ℕ} 0 1 = cc in absurd (ome
 good-only fault.Field p whole e = let z : _≡_ {A = ℕ} 0 1 = cc in absurd (omega arith)
 good-only fault.Limit p whole e = let z : _≡_ {A = ℕ} 0 1 = cc in absurd (omega arith)
 
-read-table : (M : Model) (r : ModelRead) → Indexed M r → (words : List ℕ) → ReadTable M words (readOf (scanned (r .index) words) words)
-read-table M r i words =
-    let s : Scanned = scanned (r .index) words in
-    let whole : TableAnswer = numbersAnswer (s .seen .nodes) 0 words in
-    record {
-      says = read-says M r i words;
-      indexed = λ e. read-indexed M (r .index) words (good-only (s .fault) (s .place) whole e) (answerOf (s .fault) (s .place) whole);
-    }
+-- the stores fit, and held ns and zs at first
+module _ (words ns : List ℕ) (zs : List ℤ) (f : StoresFit ns zs) where
+  read-table : (M : Model) (m : ModelKept) → m .index .clocks ≤ 4 → Indexed M m →
+      let q : Pass = scanned (m .index) words ns zs in ReadTable M words (readOf q words) (q .kept)
+  read-table M m c i =
+      let q : Pass = scanned (m .index) words ns zs in
+      let whole : TableAnswer = numbersAnswer (q .seen .nodes) 0 words in
+      record {
+        says = read-says M m i words ns zs;
+        indexed = λ e. read-indexed M (m .index) words ns zs c f (good-only (q .fault) (q .place) whole e) (answerOf (q .fault) (q .place) whole);
+      }
 
--- the same for every model that the index may come from
-pub read-for : (x : Index) (words : List ℕ) → ReadFor x words (readOf (scanned x words) words)
-read-for x words = record { reads = λ M r e i. rw (← e) (read-table M r i words) }
+  -- the same for every model that the index may come from
+  pub read-for : (x : Index) → IndexFits x → let q : Pass = scanned x words ns zs in ReadFor x words (readOf q words) (q .kept .nodes) (q .kept .zones)
+  read-for x g = record { reads = λ M m e i. rw (← e) (read-table M m (rw e (g .clocks)) i) }
 
--- what the steps come to
-pub returned :
-    (x : Index) (words : List ℕ) (s : Scanned) (a : TableAnswer) →
-    s ≡ scanned x words → a ≡ answerOf (s .fault) (s .place) (numbersAnswer (s .seen .nodes) 0 words) →
-    (readAt a s ≡ readOf (scanned x words) words) × ReadFor x words (readAt a s)
-returned x words s a es ea = rw (ea, es) (refl, read-for x words)
+  -- what the steps come to
+  pub returned :
+      (x : Index) → IndexFits x → (s : Scanned) (a : TableAnswer) (ms : List ℕ) (ys : List ℤ) →
+      passOf s ms ys ≡ scanned x words ns zs → a ≡ answerOf (s .fault) (s .place) (numbersAnswer (s .seen .nodes) 0 words) →
+      ReadFor x words (readAt a (s .seen)) ms ys
+  returned x g s a ms ys es ea =
+      rw ea (subst (λ (q : Pass). ReadFor x words (readOf q words) (q .kept .nodes) (q .kept .zones)) (sym es) (read-for x g))

@@ -1,128 +1,113 @@
 -- The rows that are due behind some words, and the numbers by which the pass knows them. Assumes nothing.
-use Prim.Native.Nat.{ℕ, suc, _+_, _≤_}
+use Prim.Native.Nat.{ℕ, suc, _+_, _-_}
 use mathlib.Core.Path.{_≡_, refl, sym, subst, _∙_}
 use mathlib.Core.Bool.{Bool, true, false, cond}
 use mathlib.Core.List.{List, [], _∷_}
 use native.Mathlib.Numerals.{add-one}
 use native.Mathlib.Omega.{arith}
-use borrow.Author.Tests.{le-leb, lt-leb, le-ltb, lt-ltb}
-use lib.Dec.{eqb, leb, ltb}
-use lib.ListN.{getD, length}
-use Rattle.zone.proofs.Bools.{true-false}
-use Rattle.model.specs.TableKinds.{TableKind, noKind, tableHead, node, nodeBound, value, blocked, successor, startNode}
+use borrow.Author.Tests.{ne-eqb, ltb-true, lt-ltb}
+use lib.Dec.{eqb, ltb}
+use lib.ListN.{length}
+use Rattle.model.specs.TableKinds.{TableKind, noKind, tableHead, node, nodeBound, value, blocked, successor, startNode, tableNumber}
 use Rattle.model.specs.Model.{Action, Location, Model}
 use Rattle.model.specs.States.{locationAt}
 use Rattle.model.specs.Indexed.{Each, ActionAt, LocationAt}
-use Rattle.model.specs.declared.index.Index.{Index}
-use Rattle.model.specs.declared.read.ModelRead.{ModelRead}
+use Rattle.model.specs.Index.{Kept as ModelKept}
 use Rattle.table.specs.Table.{rowActions}
-use Rattle.table.specs.Reading.{Due, noneDue, edgeCounts, allDue, dueAfterBlocked, dueAfterSuccessor, rowsAllow?}
-use Rattle.table.specs.Scan.{rowsAllowKind?, withValue, withBlocked, withSuccessor, firstRow, endRow, edgesAt}
+use Rattle.table.specs.Reading.{Due, edgeCounts, allDue, dueAfterRow, dueAfterSuccessor, rowsAllow?}
+use Rattle.table.specs.Scan.{rowsAllowKind?, withValue, withRow, withSuccessor, firstRow, endRow, rowsAt, edgesAt, sizeAt}
 use Rattle.table.specs.declared.seen.Seen.{Seen}
 
--- the rows that d says are due are those of the actions As, and the pass has their numbers. The count of a row's B words tells nothing where no
--- row is due
-pub record Left (r : ModelRead) (As : List Action) (d : Due) (s : Seen) : Type 0 where
-  pub each : Each (ActionAt r) (s .action) As
-  pub rows : d .rows ≡ edgeCounts As
-  pub last : s .last ≡ s .action + length As
-  pub begun : 1 ≤ length As → s .begun ≡ d .begun
+-- the rows that are due, each by the number of its B words, and the pass's numbers for them: none, or a first one and behind it those of the
+-- actions As. How many B words stand tells nothing where no row is due
+pub data Left (m : ModelKept) (rows : List ℕ) (begun : ℕ) (s : Seen) : Type 0 where
+  none-left : rows ≡ [] → s .rows ≡ 0 → Left m rows begun s
+  row-left :
+      (As : List Action) → Each (ActionAt m) (s .action + 1) As → rows ≡ s .size ∷ edgeCounts As → s .rows ≡ suc (length As) →
+      s .begun ≡ begun → Left m rows begun s
 
-pub none-left : {r : ModelRead} (s : Seen) → s .last ≡ s .action → Left r [] noneDue s
-unfolding Each edgeCounts
-none-left s e = record { each = tt; rows = refl; last = omega arith; begun = λ h. absurd (omega arith) }
+abbrev pub LeftDue : ModelKept → Due → Seen → Type 0
+LeftDue m d s = Left m (d .rows) (d .begun) s
 
--- ---- the tests of a row
+-- the tests of a row
+some-rows : (n : ℕ) → (eqb (suc n) 0 ≡ false) × (ltb 0 (suc n) ≡ true)
+some-rows n = (ne-eqb (suc n) 0 (λ e. omega arith), lt-ltb 0 (suc n) (omega arith))
 
--- whether a row is due, by the pass's numbers
-no-row : {r : ModelRead} {d : Due} (s : Seen) → Left r [] d s → (leb (s .last) (s .action) ≡ true) × (ltb (s .action) (s .last) ≡ false)
-no-row s h = let e = h .last in (le-leb (s .last) (s .action) (omega arith), le-ltb (s .action) (s .last) (omega arith))
-
-a-row : {r : ModelRead} {A : Action} {As : List Action} {d : Due} (s : Seen) → Left r (A ∷ As) d s →
-    (leb (s .last) (s .action) ≡ false) × (ltb (s .action) (s .last) ≡ true)
-a-row s h = let e = h .last in (lt-leb (s .last) (s .action) (omega arith), lt-ltb (s .action) (s .last) (omega arith))
-
-pub same-rows : (r : ModelRead) (As : List Action) (d : Due) (s : Seen) → Left r As d s → (k : TableKind) → rowsAllowKind? k s ≡ rowsAllow? k d
-unfolding rowsAllowKind? rowsAllow? edgeCounts
-same-rows r As d s h noKind = refl
-same-rows r As d s h tableHead = refl
-same-rows r [] d s h node = rw (h .rows) (no-row s h .0)
-same-rows r (A ∷ As) d s h node = rw (h .rows) (a-row s h .0)
-same-rows r As d s h nodeBound = refl
-same-rows r As d s h value = refl
-same-rows r [] d s h blocked = rw (h .rows, no-row s h .1)
-same-rows r (A ∷ As) d s h blocked = rw (h .rows, a-row s h .1, h .begun (omega arith))
-same-rows r [] d s h successor = rw (h .rows) (no-row s h .1)
-same-rows r (A ∷ As) d s h successor = rw (h .rows) (a-row s h .1)
-same-rows r [] d s h startNode = rw (h .rows) (no-row s h .0)
-same-rows r (A ∷ As) d s h startNode = rw (h .rows) (a-row s h .0)
+pub same-rows : (m : ModelKept) (d : Due) (s : Seen) → LeftDue m d s → (k : TableKind) → rowsAllowKind? k s ≡ rowsAllow? k d
+unfolding rowsAllowKind? rowsAllow?
+same-rows m d s h noKind = refl
+same-rows m d s h tableHead = refl
+same-rows m d s (none-left e f) node = rw (e, f)
+same-rows m d s (row-left As a e f b) node = rw (e, f, some-rows (length As) .0)
+same-rows m d s h nodeBound = refl
+same-rows m d s h value = refl
+same-rows m d s (none-left e f) blocked = rw (e, f)
+same-rows m d s (row-left As a e f b) blocked = rw (e, f, b, some-rows (length As) .1)
+same-rows m d s (none-left e f) successor = rw (e, f)
+same-rows m d s (row-left As a e f b) successor = rw (e, f, some-rows (length As) .1)
+same-rows m d s (none-left e f) startNode = rw (e, f)
+same-rows m d s (row-left As a e f b) startNode = rw (e, f, some-rows (length As) .0)
 
 -- ---- a word more
 
--- some actions are left
-pub record SomeLeft (r : ModelRead) (d : Due) (s : Seen) : Type 0 where
-  pub actions : List Action
-  pub left : Left r actions d s
+-- the rows of some actions are due, and none of them is begun
+first-left :
+    (m : ModelKept) (s : Seen) (As : List Action) → Each (ActionAt m) (s .action) As → s .rows ≡ length As →
+    s .size ≡ sizeAt (m .index) (s .action) (s .rows) → s .begun ≡ 0 → Left m (edgeCounts As) 0 s
+unfolding Each edgeCounts sizeAt edgesAt
+first-left m s [] a e f b = none-left refl e
+first-left m s (A ∷ As) a e f b =
+    let size : s .size ≡ length (A .edges) = f ∙ rw (e, some-rows (length As) .0, add-one (s .action), a .0 .ends) (omega arith) in
+    row-left As (subst (λ (n : ℕ). Each (ActionAt m) n As) (sym (add-one (s .action))) (a .1)) (rw size) e b
 
-edges-at : (r : ModelRead) (a : ℕ) (A : Action) → ActionAt r a A → edgesAt (r .index) a ≡ length (A .edges)
-unfolding edgesAt
-edges-at r a A h = rw (add-one a, h .ends) (omega arith)
+module _ (m : ModelKept) (d : Due) (s : Seen) where
+  -- a row is complete; o is the opener behind it
+  row-done : (o : ℕ) (As : List Action) → Each (ActionAt m) (s .action + 1) As → s .rows ≡ suc (length As) →
+      Left m (edgeCounts As) 0 (withRow (m .index) s o)
+  row-done o As a f = first-left m (withRow (m .index) s o) As a (omega arith) refl refl
 
-next : (r : ModelRead) (a : ℕ) (A : Action) (As : List Action) → Each (ActionAt r) a (A ∷ As) → Each (ActionAt r) (a + 1) As
+  pub left-row : (o : ℕ) → LeftDue m d s → ltb 0 (s .rows) ≡ true → LeftDue m (dueAfterRow d) (withRow (m .index) s o)
+  unfolding dueAfterRow
+  left-row o (none-left e f) t = let r = ltb-true 0 (s .rows) t in absurd (omega arith)
+  left-row o (row-left As a e f b) t = rw e (row-done o As a f)
+
+  pub left-successor : LeftDue m d s → ltb 0 (s .rows) ≡ true → LeftDue m (dueAfterSuccessor d) (withSuccessor (m .index) s)
+  unfolding dueAfterSuccessor
+  left-successor (none-left e f) t = let r = ltb-true 0 (s .rows) t in absurd (omega arith)
+  left-successor (row-left As a e f b) t = rw (e, ← b, add-one (s .begun)) (by (eqb (suc (s .begun)) (s .size)))
+    where
+      by :
+          (c : Bool) → Left m (cond c (edgeCounts As) (s .size ∷ edgeCounts As)) (cond c 0 (suc (s .begun)))
+          (record {
+            opener = tableNumber successor;
+            whole = s .whole;
+            nodes = s .nodes;
+            location = s .location;
+            target = s .target;
+            action = cond c (s .action + 1) (s .action);
+            rows = cond c (s .rows - 1) (s .rows);
+            size = cond c (sizeAt (m .index) (s .action + 1) (s .rows - 1)) (s .size);
+            begun = cond c 0 (suc (s .begun));
+            start = s .start;
+            place = s .place;
+          })
+      by true = row-done (tableNumber successor) As a f
+      by false = row-left As a refl f refl
+
+-- the actions of a location that have a row
+rows-each : (m : ModelKept) (n : ℕ) (c : Bool) (As : List Action) → Each (ActionAt m) n As → Each (ActionAt m) n (cond c [] As)
 unfolding Each
-next r a A As h = subst (λ (n : ℕ). Each (ActionAt r) n As) (sym (add-one a)) (h .1)
+rows-each m n true As h = tt
+rows-each m n false As h = h
 
-pub left-blocked : (r : ModelRead) (As : List Action) (d : Due) (s : Seen) → Left r As d s → ltb (s .action) (s .last) ≡ true →
-    SomeLeft r (dueAfterBlocked (d .rows)) (withBlocked s)
-unfolding dueAfterBlocked edgeCounts
-left-blocked r [] d s h t = true-false (sym t ∙ no-row s h .1)
-left-blocked r (A ∷ As) d s h t =
-    record {
-      actions = As;
-      left = record { each = next r (s .action) A As (h .each); rows = rw (h .rows); last = omega (arith, h .last); begun = λ l. rw (h .rows) };
-    }
+rows-count : (first end : ℕ) (c : Bool) (As : List Action) → end ≡ first + length As → cond c 0 (end - first) ≡ length (cond c [] As)
+rows-count first end true As e = refl
+rows-count first end false As e = omega arith
 
-pub left-successor : (r : ModelRead) (As : List Action) (d : Due) (s : Seen) → Left r As d s → ltb (s .action) (s .last) ≡ true →
-    SomeLeft r (dueAfterSuccessor (d .begun) (d .rows)) (withSuccessor s (edgesAt (r .index) (s .action)))
-unfolding dueAfterSuccessor edgeCounts Each
-left-successor r [] d s h t = true-false (sym t ∙ no-row s h .1)
-left-successor r (A ∷ As) d s h t =
-    rw (h .rows, ← h .begun (omega arith), edges-at r (s .action) A (h .each .0), add-one (s .begun))
-    (by (eqb (suc (s .begun)) (length (A .edges))))
-  where
-    by : (c : Bool) → SomeLeft r
-        (cond c (record { rows = edgeCounts As; begun = 0 }) (record { rows = length (A .edges) ∷ edgeCounts As; begun = suc (s .begun) }))
-        (record {
-          opener = 11;
-          whole = s .whole;
-          nodes = s .nodes;
-          location = s .location;
-          action = cond c (s .action + 1) (s .action);
-          last = s .last;
-          begun = cond c 0 (suc (s .begun));
-          start = s .start;
-          place = s .place;
-        })
-    by true = record {
-      actions = As;
-      left = record { each = next r (s .action) A As (h .each); rows = refl; last = omega (arith, h .last); begun = λ l. refl };
-    }
-    by false = record { actions = A ∷ As; left = record { each = h .each; rows = refl; last = h .last; begun = λ l. refl } }
-
-pub left-value : (M : Model) (r : ModelRead) (s : Seen) → LocationAt r (s .location) (locationAt M (s .location)) →
-    Left r (rowActions (locationAt M (s .location))) (allDue M (s .location))
-    (withValue s (firstRow (r .index) (s .location)) (endRow (r .index) (s .location)))
-unfolding allDue rowActions firstRow endRow Each
-left-value M r s h =
-    rw (h .target, add-one (s .location)) (by (locationAt M (s .location) .target))
-  where
-    L : Location
-    L = locationAt M (s .location)
-
-    x : Index
-    x = r .index
-
-    by : (c : Bool) → Left r (cond c [] (L .actions)) (record { rows = edgeCounts (cond c [] (L .actions)); begun = 0 })
-        (withValue s (cond c (getD (x .actions) (suc (s .location)) 0) (getD (x .actions) (s .location) 0)) (getD (x .actions) (suc (s .location)) 0))
-    by true = record { each = tt; rows = refl; last = omega arith; begun = λ l. refl }
-    by false = record { each = h .actions; rows = refl; last = h .ends; begun = λ l. refl }
+pub left-value : (M : Model) (m : ModelKept) (s : Seen) → LocationAt m (s .location) (locationAt M (s .location)) →
+    LeftDue m (allDue M (s .location)) (withValue (m .index) s)
+unfolding allDue rowActions rowsAt firstRow endRow
+left-value M m s h =
+    let L : Location = locationAt M (s .location) in
+    first-left m (withValue (m .index) s) (rowActions L) (rows-each m _ (L .target) (L .actions) (h .actions))
+    (rw (h .target, add-one (s .location)) (rows-count _ _ (L .target) (L .actions) (h .ends))) refl refl

@@ -1,35 +1,33 @@
 -- Laws of the pass over a table's words: what a turn of the loop comes to. Assumes nothing.
-use Prim.Native.Nat.{ℕ, _+_, _-_, _*_, _≤_, _<_}
+use Prim.Native.Nat.{ℕ, _+_, _-_, _≤_, _<_}
 use mathlib.Core.Path.{_≡_, refl, sym, ap, _∙_}
-use mathlib.Core.Bool.{Bool, true, false, not, cond, _&&_, _||_}
+use mathlib.Core.Bool.{Bool, true, false, not, _&&_, _||_}
 use mathlib.Core.List.{List}
 use native.Mathlib.Numerals.{add-one}
 use native.Mathlib.Omega.{arith}
-use borrow.Author.Tests.{eq-eqb, ne-eqb, leb-true, leb-false, lt-ltb, le-ltb}
+use borrow.Author.Tests.{leb-true, leb-false, lt-ltb, le-ltb}
 use lib.Dec.{leb, ltb}
-use lib.ListN.{length, drop, getD, set, length-set, drop-of-length-le}
-use lib.Seq.{drop-cons, set-set, set-getD, getD-set-same}
-use Rattle.zone.specs.Words.{kind, boundOf}
-use Rattle.zone.specs.Cells.{tighterOf, pastEnd}
-use Rattle.zone.specs.Squares.{universe, withBound}
-use Rattle.zone.specs.Reading.{cellOf, withWord}
-use Rattle.zone.specs.declared.bounds.Bound.{Bound as Cell}
-use Rattle.zone.specs.declared.zones.Zone.{Zone as Square}
+use lib.IntN.{ℤ}
+use lib.ListN.{length, drop, getD, drop-of-length-le}
+use lib.Seq.{drop-cons}
+use Rattle.zone.specs.Words.{kind}
+use Rattle.zone.specs.Squares.{universe}
+use Rattle.zone.specs.Stores.{putAt, withWordAt, HasSlot}
 use Rattle.zone.proofs.Bools.{false-true}
-use Rattle.model.specs.TableKinds.{TableKind, noKind, tableHead, node, nodeBound, value, blocked, successor, startNode, tableNumber, isTable}
+use Rattle.zone.proofs.StoreLaws.{put-length, word-length}
+use Rattle.model.specs.TableKinds.{TableKind, noKind, tableHead, node, nodeBound, value, blocked, successor, startNode, tableNumber, isTable, tableKindOf}
 use Rattle.model.specs.declared.index.Index.{Index}
-use Rattle.model.proofs.ScanLaws.{noZone}
 use Rattle.table.specs.Fields.{numberOf}
-use Rattle.table.specs.Scan.{faultAt, lastFault, withValue, withSuccessor, firstRow, endRow, edgesAt, seenWithKind, seenWith}
+use Rattle.table.specs.Nodes.{entryOf, putEntry, HasNode}
+use Rattle.table.specs.Scan.{faultAt, lastFault, seenWithKind, seenWith}
 use Rattle.table.specs.Scan.{IndexFits, WithinLimits}
-use Rattle.table.specs.Index.{entryOf, nodesWith, zonesWith, unlessFault, scanFrom, numbersAnswer}
+use Rattle.table.specs.Index.{Kept, keep, keptWithKind, keptWith, Pass, passAt, unlessFault, scanFrom, numbersAnswer}
 use Rattle.table.specs.declared.seen.Seen.{Seen}
 use Rattle.table.specs.declared.seen.Fault.{Fault}
 use Rattle.table.specs.declared.seen.Fault.the-variants as fault
-use Rattle.table.specs.declared.nodes.NodeEntry.{NodeEntry}
-use Rattle.table.specs.declared.scan.Scanned.{Scanned}
 use Rattle.table.specs.declared.read.TableAnswer.the-variants as answer
-use Rattle.table.proofs.KindLaws.{kind-is, by-kind}
+use Rattle.table.proofs.KindLaws.{kind-is, by-kind, IsNot}
+use Rattle.table.proofs.NodeLaws.{entry-length}
 use Rattle.table.proofs.Limits.{limits-with}
 
 -- ---- what a word adds
@@ -42,7 +40,7 @@ module _ (s : Seen) (w p : ℕ) where
 
     -- nothing, where it is of no kind or a bound
     pub seen-stays :
-        (kind w ≡ 7 → ⊥) → (kind w ≡ 8 → ⊥) → (kind w ≡ 9 → ⊥) → (kind w ≡ 10 → ⊥) → (kind w ≡ 11 → ⊥) → (kind w ≡ 12 → ⊥) →
+        IsNot tableHead w → IsNot node w → IsNot value w → IsNot blocked w → IsNot successor w → IsNot startNode w →
         s ≡ seenWith x s w p
     unfolding seenWith seenWithKind
     seen-stays h n v a b c = by-kind (λ (k : TableKind). s ≡ seenWithKind k x s w p) w refl at
@@ -57,140 +55,103 @@ module _ (s : Seen) (w p : ℕ) where
         at successor q = absurd (b q)
         at startNode q = absurd (c q)
 
-    -- the nodes are as many, where it is no node
-    pub count-stays : (kind w ≡ 8 → ⊥) → s .nodes ≡ seenWith x s w p .nodes
-    unfolding seenWith seenWithKind
-    count-stays n = by-kind (λ (k : TableKind). s .nodes ≡ seenWithKind k x s w p .nodes) w refl at
-      where
-        at : (k : TableKind) → kind w ≡ tableNumber k → s .nodes ≡ seenWithKind k x s w p .nodes
-        at noKind q = refl
-        at tableHead q = refl
-        at node q = absurd (n q)
-        at nodeBound q = refl
-        at value q = refl
-        at blocked q = refl
-        at successor q = refl
-        at startNode q = refl
+-- the stores keep their lengths
+pub record AsLong (new old : Kept) : Type 0 where
+  pub nodes : length (new .nodes) ≡ length (old .nodes)
+  pub zones : length (new .zones) ≡ length (old .zones)
 
-    -- the rows behind a value: none at a target
-    pub value-step :
-        kind w ≡ 9 →
-        let l : ℕ = s .location in
-        let last : ℕ = getD (x .actions) (l + 1) 0 in
-        withValue s (cond (getD (x .targets) l false) last (getD (x .actions) l 0)) last ≡ seenWith x s w p
-    unfolding seenWith seenWithKind firstRow endRow
-    value-step e = rw (kind-is value w e)
+pub as-long : (k : TableKind) (s : Seen) (w p : ℕ) (kept : Kept) → AsLong (keptWithKind k s w p kept) kept
+unfolding keptWithKind
+as-long noKind s w p kept = record { nodes = refl; zones = refl }
+as-long tableHead s w p kept = record { nodes = refl; zones = refl }
+as-long node s w p kept = record { nodes = refl; zones = put-length universe (s .nodes) (kept .zones) }
+as-long nodeBound s w p kept = record { nodes = refl; zones = word-length w (s .nodes - 1) (kept .zones) }
+as-long value s w p kept = record { nodes = entry-length (entryOf (s .location) w p) (s .nodes - 1) (kept .nodes); zones = refl }
+as-long blocked s w p kept = record { nodes = refl; zones = refl }
+as-long successor s w p kept = record { nodes = refl; zones = refl }
+as-long startNode s w p kept = record { nodes = refl; zones = refl }
 
-    pub successor-step :
-        kind w ≡ 11 → withSuccessor s (getD (x .edges) (s .action + 1) 0 - getD (x .edges) (s .action) 0) ≡ seenWith x s w p
-    unfolding seenWith seenWithKind edgesAt
-    successor-step e = rw (kind-is successor w e)
+-- a store as long as one that fits has a place for each of 64 nodes
+pub has-slot : {n l : ℕ} {zs : List ℤ} → n < 64 → length zs ≡ l → 1600 ≤ l → HasSlot n zs
+has-slot h e room = record { number = h; room = omega arith }
 
-  -- a value completes the last node
-  module _ (ns : List NodeEntry) where
-    pub nodes-value : {n : ℕ} → kind w ≡ 9 → n ≡ s .nodes - 1 → set ns n (entryOf (s .location) w p) ≡ nodesWith s w p ns
-    unfolding nodesWith
-    nodes-value e slot = rw (eq-eqb _ _ e, slot)
+pub has-node : {n l : ℕ} {ns : List ℕ} → n < 64 → length ns ≡ l → 192 ≤ l → HasNode n ns
+has-node h e room = record { number = h; room = omega arith }
 
-    pub nodes-stay : (kind w ≡ 9 → ⊥) → ns ≡ nodesWith s w p ns
-    unfolding nodesWith
-    nodes-stay n = rw (ne-eqb _ _ n)
+-- what is kept with the word w, by its kind
+module _ (s : Seen) (w p : ℕ) (ns : List ℕ) (zs : List ℤ) where
+  kept-step : (k : TableKind) → kind w ≡ tableNumber k → keptWithKind k s w p (keep ns zs) ≡ keptWith s w p (keep ns zs)
+  unfolding keptWith
+  kept-step k e = rw (kind-is k w e)
 
-    pub nodes-length : length (nodesWith s w p ns) ≡ length ns
-    unfolding nodesWith
-    nodes-length = by (isTable value w)
-      where
-        entry : NodeEntry
-        entry = entryOf (s .location) w p
+  kept-stays : IsNot nodeBound w → IsNot node w → IsNot value w → keep ns zs ≡ keptWith s w p (keep ns zs)
+  unfolding keptWith keptWithKind
+  kept-stays b n v = by-kind (λ (k : TableKind). keep ns zs ≡ keptWithKind k s w p (keep ns zs)) w refl at
+    where
+      at : (k : TableKind) → kind w ≡ tableNumber k → keep ns zs ≡ keptWithKind k s w p (keep ns zs)
+      at noKind q = refl
+      at tableHead q = refl
+      at node q = absurd (n q)
+      at nodeBound q = absurd (b q)
+      at value q = absurd (v q)
+      at blocked q = refl
+      at successor q = refl
+      at startNode q = refl
 
-        by : (b : Bool) → length (cond b (set ns (s .nodes - 1) entry) ns) ≡ length ns
-        by true = length-set ns (s .nodes - 1) entry
-        by false = refl
+  module _ {ms : List ℕ} {ys : List ℤ} where
+    pub kept-bound : kind w ≡ tableNumber nodeBound → ms ≡ ns → ys ≡ withWordAt w (s .nodes - 1) zs → keep ms ys ≡ keptWith s w p (keep ns zs)
+    unfolding keptWithKind
+    kept-bound e g h = rw (g, h) (kept-step nodeBound e)
 
--- the zone where the bound of a word holds too, from the cell where it stands
-pub zone-bound :
-    (w p : ℕ) (b : Cell) (z : Square) → p ≡ boundOf w .i * 5 + boundOf w .j → b ≡ tighterOf (getD (z .cells) p pastEnd) (cellOf (boundOf w)) →
-    record { cells = set (z .cells) p b } ≡ withWord w z
-unfolding withWord withBound
-zone-bound w p b z e f = rw (f, e)
+    pub kept-node : kind w ≡ tableNumber node → ms ≡ ns → ys ≡ putAt universe (s .nodes) zs → keep ms ys ≡ keptWith s w p (keep ns zs)
+    unfolding keptWithKind
+    kept-node e g h = rw (g, h) (kept-step node e)
 
-module _ (x : Index) (s : Seen) (w p : ℕ) (zs : List Square) (n : ℕ) (z : Square) where
-  -- z, the zone of the last node, is held apart from zs, where its slot is n. Behind the word w it is z′, and its slot n′ of zs′
-  pub record Held (zs′ : List Square) (n′ : ℕ) (z′ : Square) : Type 0 where
-    pub zones : set zs′ n′ z′ ≡ zonesWith s w (set zs n z)
-    pub room : length zs′ ≡ 64
-    pub slot : n′ ≡ seenWith x s w p .nodes - 1
+    pub kept-value :
+        kind w ≡ tableNumber value → ms ≡ putEntry (entryOf (s .location) w p) (s .nodes - 1) ns → ys ≡ zs → keep ms ys ≡ keptWith s w p (keep ns zs)
+    unfolding keptWithKind
+    kept-value e g h = rw (g, h) (kept-step value e)
 
-  module _ (room : length zs ≡ 64) (slot : n ≡ s .nodes - 1) where
-    -- a bound goes to z
-    pub held-bound :
-        {zs′ : List Square} {n′ : ℕ} {z′ : Square} →
-        kind w ≡ 5 → n < 64 → zs′ ≡ zs → n′ ≡ n → z′ ≡ withWord w z → Held zs′ n′ z′
-    unfolding zonesWith seenWith seenWithKind
-    held-bound e h ez en e′ = record {
-      zones = rw (ez, en, e′, eq-eqb _ _ e, sym slot, set-set zs n z (withWord w (getD (set zs n z) n universe)))
-          (ap (λ u. set zs n (withWord w u)) (sym (getD-set-same zs n z universe (rw room h))));
-      room = rw ez room;
-      slot = rw (en, kind-is nodeBound w e) slot;
-    }
-
-    -- at a node z is put at its slot, and the zone at the next is taken
-    pub held-node :
-        {zs′ : List Square} {n′ : ℕ} {z′ : Square} →
-        kind w ≡ 8 → zs′ ≡ set zs n z → n′ ≡ s .nodes → z′ ≡ getD (set zs n z) (s .nodes) noZone → Held zs′ n′ z′
-    unfolding zonesWith seenWith seenWithKind
-    held-node e ez en e′ = record {
-      zones = rw (ez, en, e′, e, set-getD (set zs n z) (s .nodes) noZone);
-      room = rw ez (length-set zs n z ∙ room);
-      slot = rw (en, kind-is node w e) (omega arith);
-    }
-
-    pub held-other :
-        {zs′ : List Square} {n′ : ℕ} {z′ : Square} →
-        (kind w ≡ 5 → ⊥) → (kind w ≡ 8 → ⊥) → zs′ ≡ zs → n′ ≡ n → z′ ≡ z → Held zs′ n′ z′
-    unfolding zonesWith
-    held-other b o ez en e′ = record {
-      zones = rw (ez, en, e′, ne-eqb _ _ b);
-      room = rw ez room;
-      slot = en ∙ slot ∙ ap (λ m. m - 1) (count-stays s w p x o);
-    }
+    pub kept-other : IsNot nodeBound w → IsNot node w → IsNot value w → ms ≡ ns → ys ≡ zs → keep ms ys ≡ keptWith s w p (keep ns zs)
+    kept-other b n v g h = rw (g, h) (kept-stays b n v)
 
 -- ---- the pass, at the word of index p
-stops : (f : Fault) → (f ≡ fault.None → ⊥) → (stop go : Scanned) → stop ≡ unlessFault f stop go
+stops : (f : Fault) → (f ≡ fault.None → ⊥) → (stop go : Pass) → stop ≡ unlessFault f stop go
 unfolding unlessFault
 stops fault.None n stop go = absurd (n refl)
 stops fault.Kind n stop go = refl
 stops fault.Field n stop go = refl
 stops fault.Limit n stop go = refl
 
-module _ (x : Index) (ws : List ℕ) (p : ℕ) (s : Seen) (ns : List NodeEntry) (zs : List Square) where
-  pub scan-end :
-      p ≤ length ws → length ws ≤ p →
-      record { fault = lastFault s; place = length ws; seen = s; nodes = ns; zones = zs } ≡ scanFrom x s ns zs p (drop p ws)
+module _ (x : Index) (ws : List ℕ) (p : ℕ) (s : Seen) (k : Kept) where
+  pub scan-end : p ≤ length ws → length ws ≤ p → passAt (lastFault s) (length ws) s k ≡ scanFrom x s k p (drop p ws)
   unfolding scanFrom
-  scan-end h k = let e : length ws ≡ p = omega arith in rw (drop-of-length-le ws {i = p} k, e)
+  scan-end h l = let e : length ws ≡ p = omega arith in rw (drop-of-length-le ws {i = p} l, e)
 
   module _ (h : p < length ws) where
     pub scan-stop :
         (f : Fault) → f ≡ faultAt s (x .clocks) (x .locations) (getD ws p 0) → (f ≡ fault.None → ⊥) →
-        record { fault = f; place = p; seen = s; nodes = ns; zones = zs } ≡ scanFrom x s ns zs p (drop p ws)
+        passAt f p s k ≡ scanFrom x s k p (drop p ws)
     unfolding scanFrom
     scan-stop f e n = rw (drop-cons ws p 0 h, sym e) (stops f n _ _)
 
     -- past a word without a fault: the loop's facts, once more
     pub scan-go :
-        {r : Scanned} {s′ : Seen} {ns′ : List NodeEntry} {zs′ : List Square} →
-        IndexFits x → WithinLimits x s → length ns ≡ 64 → r ≡ scanFrom x s ns zs p (drop p ws) →
+        {q : Pass} {t : Seen} {ns : List ℕ} {zs : List ℤ} {a b : ℕ} →
+        IndexFits x → WithinLimits x s → length (k .nodes) ≡ a → length (k .zones) ≡ b → q ≡ scanFrom x s k p (drop p ws) →
         faultAt s (x .clocks) (x .locations) (getD ws p 0) ≡ fault.None →
-        s′ ≡ seenWith x s (getD ws p 0) p → ns′ ≡ nodesWith s (getD ws p 0) p ns → zs′ ≡ zonesWith s (getD ws p 0) zs →
-        (p + 1 ≤ length ws) × WithinLimits x s′ × (length ns′ ≡ 64) × (r ≡ scanFrom x s′ ns′ zs′ (p + 1) (drop (p + 1) ws))
-    unfolding scanFrom unlessFault
-    scan-go fits good ln i e es en ez = (
-      omega arith,
-      rw es (limits-with x s (getD ws p 0) fits good e p),
-      rw en (nodes-length s (getD ws p 0) p ns ∙ ln),
-      i ∙ rw (es, en, ez, drop-cons ws p 0 h, e, add-one p),
-    )
+        t ≡ seenWith x s (getD ws p 0) p → keep ns zs ≡ keptWith s (getD ws p 0) p k →
+        (p + 1 ≤ length ws) × WithinLimits x t × (length ns ≡ a) × (length zs ≡ b)
+        × (q ≡ scanFrom x t (keep ns zs) (p + 1) (drop (p + 1) ws))
+    unfolding scanFrom unlessFault keptWith
+    scan-go fits good la lb i e es ek =
+        let long = as-long (tableKindOf (getD ws p 0)) s (getD ws p 0) p k in (
+          omega arith,
+          rw es (limits-with x s (getD ws p 0) fits good e p),
+          ap (λ (k : Kept). length (k .nodes)) ek ∙ long .nodes ∙ la,
+          ap (λ (k : Kept). length (k .zones)) ek ∙ long .zones ∙ lb,
+          i ∙ rw (es, ek, drop-cons ws p 0 h, e, add-one p),
+        )
 
 -- ---- the numbers of nodes, from the word of index p on
 module _ (nodes p : ℕ) (ws : List ℕ) where

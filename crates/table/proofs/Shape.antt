@@ -2,8 +2,8 @@
 -- there, values of at most V, good zones. Assumes nothing.
 use Prim.Native.Nat.{ℕ, zero, suc, _+_, _-_, _≤_, _<_, _^_}
 use mathlib.Core.Path.{_≡_, refl, sym, ap, subst, _∙_}
-use mathlib.Core.Logic.{_⊎_, inl, inr}
-use mathlib.Core.Bool.{Bool, true, false, not, _&&_, _||_}
+use mathlib.Core.Logic.{_⊎_, inl, inr, _≢_}
+use mathlib.Core.Bool.{Bool, true, false, not, cond, _&&_, _||_}
 use mathlib.Core.List.{List, [], _∷_}
 use native.Mathlib.Omega.{arith}
 use borrow.Author.Tests.{eqb-true}
@@ -12,22 +12,23 @@ use lib.ListN.{getD, length, drop, length-drop}
 use lib.Seq.{drop-drop}
 use Rattle.zone.specs.Words.{bits, kind, boundOf, goodBound?, zoneOf}
 use Rattle.zone.specs.Checks.{Check}
-use Rattle.zone.proofs.Bools.{by-test, both, and, is-true}
+use Rattle.zone.proofs.Bools.{both, and, is-true}
 use Rattle.zone.proofs.CheckLaws.{AllHold, all-left, all-right}
 use Rattle.model.specs.TableKinds.{TableKind, noKind, tableHead, node, nodeBound, value, blocked, successor, startNode, tableNumber}
 use Rattle.model.specs.TableKinds.{tableNumber, isTable, tableKindOf}
 use Rattle.model.specs.Before.{openerFrom, countOf, indexOf}
-use Rattle.model.specs.Grammar.{tableFollows, tableFollows?}
+use Rattle.model.specs.Grammar.{tableFollows, numbered?, tableFollows?}
 use Rattle.model.specs.Model.{Action, Model}
 use Rattle.model.specs.States.{locationAt}
 use Rattle.model.proofs.ZoneLaws.{All, empty, more, GoodBound, GoodZone, good-word}
 use Rattle.model.proofs.WellFormed.{WellFormed}
 use Rattle.table.specs.Fields.{wholeOf, locationOf, valueOf, numberOf, fields?}
 use Rattle.table.specs.Table.{Node, Table, rowsOf, leadingBounds, rowActions, nodeOf, nodesOf, tableOf}
-use Rattle.table.specs.Reading.{lastLocation, Due, edgeCounts, allDue, dueAfterBlocked, dueAfterSuccessor, dueWith, due}
+use Rattle.table.specs.Reading.{lastLocation, Due, edgeCounts, allDue, dueAfterRow, dueAfterSuccessor, dueWith, due}
 use Rattle.table.specs.Reading.{none?, rowsAllow?, wordChecks, wordsChecks, numberChecks, readChecks}
-use Rattle.table.specs.Scan.{rowSize}
-use Rattle.table.proofs.ReadLaws.{between, no-node, Lacking, LackingDue, lacking-with}
+use Rattle.table.specs.Scan.{rowSize, rowOpeners, oneOf?}
+use Rattle.table.proofs.Passing.{behind, behind-only, not-one, before-bound, before-value}
+use Rattle.table.proofs.ReadLaws.{Lacking, LackingDue, lacking-with}
 use Rattle.table.proofs.ReadLaws.{next, openerWith, locationWith, opener-with, location-with, due-with, named, counted}
 
 -- one row at the front of the words, for an action with so many edges: one A, or one B per edge, each naming one of so many nodes
@@ -84,30 +85,33 @@ module _ (nodes : ℕ) where
 
   module _ (w : ℕ) (ws : List ℕ) where
     due-blocked :
-        (begun : ℕ) (ns : List ℕ) → kind w ≡ 10 → T (not (none? ns) && eqb begun 0) →
-        DueStand (dueAfterBlocked ns .begun) (dueAfterBlocked ns .rows) ws → DueStand begun ns (w ∷ ws)
-    unfolding dueAfterBlocked RowStands rowSize
+        (begun : ℕ) (ns : List ℕ) → kind w ≡ tableNumber blocked → T (not (none? ns) && eqb begun 0) → DueStand 0 (drop 1 ns) ws →
+        DueStand begun ns (w ∷ ws)
+    unfolding RowStands rowSize
     due-blocked begun [] e t h = tt
     due-blocked zero (n ∷ ns) e t h = rw e (omega arith, h)
     due-blocked (suc begun) (n ∷ ns) e t h = let z : suc begun ≡ 0 = eqb→eq (suc begun) 0 t in absurd (omega arith)
 
     -- behind a B, what the row lacks stands
     left : (begun n : ℕ) (ns : List ℕ) →
-        DueStand (dueAfterSuccessor begun (n ∷ ns) .begun) (dueAfterSuccessor begun (n ∷ ns) .rows) ws →
-        Onward (n - suc begun) ws × DueStand 0 ns (drop (n - suc begun) ws)
-    unfolding dueAfterSuccessor
-    left begun n ns =
-        by-test (λ (d : Due). DueStand (d .begun) (d .rows) ws → Onward (n - suc begun) ws × DueStand 0 ns (drop (n - suc begun) ws))
-        (eqb (suc begun) n) _ _ (λ e h. last (eqb-true (suc begun) n e) h) (λ e h. h)
+        let done : Bool = eqb (suc begun) n in
+        DueStand (cond done 0 (suc begun)) (cond done ns (n ∷ ns)) ws → Onward (n - suc begun) ws × DueStand 0 ns (drop (n - suc begun) ws)
+    left begun n ns = by (eqb (suc begun) n) (λ e. eqb-true (suc begun) n e)
       where
         last : suc begun ≡ n → DueStand 0 ns ws → Onward (n - suc begun) ws × DueStand 0 ns (drop (n - suc begun) ws)
         last e h =
             let z : n - suc begun ≡ 0 = omega arith in
             subst (λ (m : ℕ). Onward m ws × DueStand 0 ns (drop m ws)) (sym z) ((omega arith, λ i l. absurd (omega arith)), h)
 
+        by : (c : Bool) → (c ≡ true → suc begun ≡ n) → DueStand (cond c 0 (suc begun)) (cond c ns (n ∷ ns)) ws →
+            Onward (n - suc begun) ws × DueStand 0 ns (drop (n - suc begun) ws)
+        by true e h = last (e refl) h
+        by false e h = h
+
     due-successor :
-        (begun : ℕ) (ns : List ℕ) → kind w ≡ 11 → T (not (none? ns)) → numberOf w < nodes → Lacking begun ns →
-        DueStand (dueAfterSuccessor begun ns .begun) (dueAfterSuccessor begun ns .rows) ws → DueStand begun ns (w ∷ ws)
+        (begun : ℕ) (ns : List ℕ) → kind w ≡ tableNumber successor → T (not (none? ns)) → numberOf w < nodes → Lacking begun ns →
+        let done : Bool = eqb (suc begun) (getD ns 0 0) in
+        DueStand (cond done 0 (suc begun)) (cond done (drop 1 ns) ns) ws → DueStand begun ns (w ∷ ws)
     unfolding RowStands rowSize
     due-successor begun [] e t l g h = tt
     due-successor zero (n ∷ ns) e t l g h =
@@ -139,14 +143,14 @@ module _ (M : Model) (W : Table) (words : List ℕ) where
     value : valueOf (getD (drop (length (leadingBounds ws)) ws) 0 0) ≤ W .whole
     rows : RowsStand (length (W .nodes)) (rowActions (locationAt M l)) (drop 1 (drop (length (leadingBounds ws)) ws))
 
-  with-bound : (l w : ℕ) (ws : List ℕ) → kind w ≡ 5 → GoodBound (boundOf w) → NodeStands l ws → NodeStands l (w ∷ ws)
+  with-bound : (l w : ℕ) (ws : List ℕ) → kind w ≡ tableNumber nodeBound → GoodBound (boundOf w) → NodeStands l ws → NodeStands l (w ∷ ws)
   unfolding leadingBounds zoneOf
   with-bound l w ws e g r =
       let there : suc (length (leadingBounds ws)) < suc (length ws) = omega (arith, r .there) in
       record { bounds = rw e (more g (r .bounds)); there = rw e there; value = rw e (r .value); rows = rw e (r .rows) }
 
   with-value :
-      (l w : ℕ) (ws : List ℕ) → kind w ≡ 9 → valueOf w ≤ W .whole → RowsStand (length (W .nodes)) (rowActions (locationAt M l)) ws →
+      (l w : ℕ) (ws : List ℕ) → kind w ≡ tableNumber value → valueOf w ≤ W .whole → RowsStand (length (W .nodes)) (rowActions (locationAt M l)) ws →
       NodeStands l (w ∷ ws)
   unfolding leadingBounds zoneOf
   with-value l w ws e h r =
@@ -178,11 +182,11 @@ module _ (M : Model) (W : Table) (words : List ℕ) where
 
   -- behind words whose opener is o, whose last node has the location l, and where the rows d are due
   record Stands (o l : ℕ) (d : Due) (p : ℕ) (ws : List ℕ) : Type 0 where
-    head : o ≡ 16 → 1 ≤ wholeOf (getD ws 0 0)
-    behind : o ≡ 8 → NodeStands l ws
-    rows : 9 ≤ o → o ≤ 11 → DueStand (length (W .nodes)) (d .begun) (d .rows) ws
+    head : o ≡ tableNumber noKind → 1 ≤ wholeOf (getD ws 0 0)
+    behind : o ≡ tableNumber node → NodeStands l ws
+    rows : oneOf? rowOpeners o ≡ true → DueStand (length (W .nodes)) (d .begun) (d .rows) ws
     nodes : All (NodeShaped M W words) (nodesOf M p ws)
-    start : (o ≡ 12 → ⊥) → numberOf (getD ws (indexOf (tableNumber startNode) ws) 0) < length (W .nodes)
+    start : o ≢ tableNumber startNode → numberOf (getD ws (indexOf (tableNumber startNode) ws) 0) < length (W .nodes)
 
   module _ (formed : WellFormed M) (o l : ℕ) (d : Due) (w p : ℕ) (ws : List ℕ) where
     good-bound : Passes nodeBound o d w → GoodBound (boundOf w)
@@ -194,7 +198,7 @@ module _ (M : Model) (W : Table) (words : List ℕ) where
     unfolding fields?
     location-exists g = ltb→lt (locationOf w) (length (M .locations)) (both (eqb (bits 23 0 w) 0) _ (g .fields) .1)
 
-    number-there : (k : TableKind) → (tableNumber k ≡ 11 ⊎ tableNumber k ≡ 12) → Passes k o d w → numberOf w < length (W .nodes)
+    number-there : (k : TableKind) → (tableNumber k ≡ tableNumber successor ⊎ tableNumber k ≡ tableNumber startNode) → Passes k o d w → numberOf w < length (W .nodes)
     number-there k (inl i) g = ltb→lt (numberOf w) (length (W .nodes)) (rw (g .named, i) at (g .number))
     number-there k (inr i) g = ltb→lt (numberOf w) (length (W .nodes)) (rw (g .named, i) at (g .number))
 
@@ -205,72 +209,71 @@ module _ (M : Model) (W : Table) (words : List ℕ) where
     stands-with :
         (k : TableKind) → Passes k o d w → LackingDue d → drop (suc p) words ≡ ws →
         Stands (openerWith k o) (locationWith k w l) (dueWith k M l d) (suc p) ws → Stands o l d p (w ∷ ws)
-    unfolding tableFollows fields? rowsAllow? dueWith allDue nodesOf indexOf
+    unfolding tableFollows numbered? fields? rowsAllow? dueWith allDue dueAfterRow dueAfterSuccessor nodesOf indexOf
     stands-with noKind g n e r = absurd (g .fields)
     stands-with tableHead g n e r =
-        let (low, high) = between 7 16 16 tt o (g .follows) in
+        let first = behind-only tableHead o (g .follows) noKind tt in
         record {
           head = λ i. leb→le 1 (wholeOf w) (g .fields);
           behind = λ i. absurd (omega arith);
-          rows = λ i j. absurd (omega arith);
+          rows = λ i. absurd (not-one rowOpeners o (tableNumber noKind) i refl first);
           nodes = rw (g .named) (r .nodes);
           start = λ i. rw (g .named) (r .start (λ j. omega arith));
         }
     stands-with node g n e r =
-        let (low, high) = between 8 7 11 tt o (g .follows) in
+        let within = behind node o (g .follows) (tableHead ∷ rowOpeners) tt in
         record {
-          head = λ i. absurd (omega arith);
-          behind = λ i. absurd (no-node o (g .follows) i);
-          rows = λ i j. none-due (d .rows) (g .rows);
+          head = λ i. absurd (not-one (tableHead ∷ rowOpeners) o (tableNumber noKind) within refl i);
+          behind = λ i. absurd (not-one (tableHead ∷ rowOpeners) o (tableNumber node) within refl i);
+          rows = λ i. none-due (d .rows) (g .rows);
           nodes = rw (g .named) (more (node-shaped p w ws e (location-exists g) (r .behind refl)) (r .nodes));
           start = λ i. rw (g .named) (r .start (λ j. omega arith));
         }
     stands-with nodeBound g n e r =
-        let (low, high) = between 5 8 8 tt o (g .follows) in
+        let last = before-bound o (g .follows) in
         record {
           head = λ i. absurd (omega arith);
           behind = λ i. with-bound l w ws (g .named) (good-bound g) (r .behind i);
-          rows = λ i j. absurd (omega arith);
+          rows = λ i. absurd (not-one rowOpeners o (tableNumber node) i refl last);
           nodes = rw (g .named) (r .nodes);
           start = λ i. rw (g .named) (r .start i);
         }
     stands-with value g n e r =
-        let (low, high) = between 9 8 8 tt o (g .follows) in
+        let last = before-value o (g .follows) in
         record {
           head = λ i. absurd (omega arith);
           behind = λ i.
               with-value l w ws (g .named) (leb→le (valueOf w) (W .whole) (g .fields))
-              (rows-due (length (W .nodes)) (rowActions (locationAt M l)) ws (r .rows (omega arith) (omega arith)));
-          rows = λ i j. absurd (omega arith);
+              (rows-due (length (W .nodes)) (rowActions (locationAt M l)) ws (r .rows refl));
+          rows = λ i. absurd (not-one rowOpeners o (tableNumber node) i refl last);
           nodes = rw (g .named) (r .nodes);
           start = λ i. rw (g .named) (r .start (λ j. omega arith));
         }
     stands-with blocked g n e r =
-        let (low, high) = between 10 9 11 tt o (g .follows) in
+        let within = behind blocked o (g .follows) rowOpeners tt in
         record {
-          head = λ i. absurd (omega arith);
-          behind = λ i. absurd (omega arith);
-          rows = λ i j. due-blocked (length (W .nodes)) w ws (d .begun) (d .rows) (g .named) (g .rows) (r .rows (omega arith) (omega arith));
+          head = λ i. absurd (not-one rowOpeners o (tableNumber noKind) within refl i);
+          behind = λ i. absurd (not-one rowOpeners o (tableNumber node) within refl i);
+          rows = λ i. due-blocked (length (W .nodes)) w ws (d .begun) (d .rows) (g .named) (g .rows) (r .rows refl);
           nodes = rw (g .named) (r .nodes);
           start = λ i. rw (g .named) (r .start (λ j. omega arith));
         }
     stands-with successor g n e r =
-        let (low, high) = between 11 9 11 tt o (g .follows) in
+        let within = behind successor o (g .follows) rowOpeners tt in
         record {
-          head = λ i. absurd (omega arith);
-          behind = λ i. absurd (omega arith);
-          rows = λ i j.
-              due-successor (length (W .nodes)) w ws (d .begun) (d .rows) (g .named) (g .rows) (number-there successor (inl refl) g) n
-              (r .rows (omega arith) (omega arith));
+          head = λ i. absurd (not-one rowOpeners o (tableNumber noKind) within refl i);
+          behind = λ i. absurd (not-one rowOpeners o (tableNumber node) within refl i);
+          rows = λ i.
+              due-successor (length (W .nodes)) w ws (d .begun) (d .rows) (g .named) (g .rows) (number-there successor (inl refl) g) n (r .rows refl);
           nodes = rw (g .named) (r .nodes);
           start = λ i. rw (g .named) (r .start (λ j. omega arith));
         }
     stands-with startNode g n e r =
-        let (low, high) = between 12 9 11 tt o (g .follows) in
+        let within = behind startNode o (g .follows) rowOpeners tt in
         record {
-          head = λ i. absurd (omega arith);
-          behind = λ i. absurd (omega arith);
-          rows = λ i j. none-due (d .rows) (g .rows);
+          head = λ i. absurd (not-one rowOpeners o (tableNumber noKind) within refl i);
+          behind = λ i. absurd (not-one rowOpeners o (tableNumber node) within refl i);
+          rows = λ i. none-due (d .rows) (g .rows);
           nodes = rw (g .named) (r .nodes);
           start = λ i. rw (g .named) (number-there startNode (inr refl) g);
         }
@@ -280,19 +283,20 @@ module _ (M : Model) (W : Table) (words : List ℕ) where
   stands-from :
       WellFormed M → (before : List ℕ) (p : ℕ) (ws : List ℕ) → AllHold (wordsChecks M (W .whole) before ws) →
       AllHold (numberChecks (length (W .nodes)) p ws) → LackingDue (due M before) → drop p words ≡ ws →
-      Stands (openerFrom 16 before) (lastLocation before) (due M before) p ws
-  unfolding wordsChecks wordChecks numberChecks nodesOf
+      Stands (openerFrom (tableNumber noKind) before) (lastLocation before) (due M before) p ws
+  unfolding wordsChecks wordChecks numberChecks nodesOf numbered?
   stands-from formed before p [] c n k e =
-      let last : openerFrom 16 before ≡ 12 = eqb→eq (openerFrom 16 before) 12 (c .0) in
+      let o : ℕ = openerFrom (tableNumber noKind) before in
+      let last : o ≡ tableNumber startNode = eqb→eq o (tableNumber startNode) (c .0) in
       record {
         head = λ i. absurd (omega arith);
         behind = λ i. absurd (omega arith);
-        rows = λ i j. absurd (omega arith);
+        rows = λ i. absurd (not-one rowOpeners o (tableNumber startNode) i refl last);
         nodes = empty;
         start = λ i. absurd (i last);
       }
   stands-from formed before p (w ∷ ws) c n k e =
-      let o : ℕ = openerFrom 16 before in
+      let o : ℕ = openerFrom (tableNumber noKind) before in
       let l : ℕ = lastLocation before in
       let d : Due = due M before in
       let q : TableKind = tableKindOf w in
@@ -308,7 +312,7 @@ module _ (M : Model) (W : Table) (words : List ℕ) where
       let due-next : due M (w ∷ before) ≡ dueWith q M l d = due-with M before w q m in
       let k-next : LackingDue (due M (w ∷ before)) = rw due-next (lacking-with q M l d formed k) in
       let at : drop (suc p) words ≡ ws = next p words w ws e in
-      let r : Stands (openerFrom 16 (w ∷ before)) (lastLocation (w ∷ before)) (due M (w ∷ before)) (suc p) ws =
+      let r : Stands (openerFrom (tableNumber noKind) (w ∷ before)) (lastLocation (w ∷ before)) (due M (w ∷ before)) (suc p) ws =
       stands-from formed (w ∷ before) (suc p) ws (c .1 .1 .1) (n .1) k-next at in
       stands-with formed o l d w p ws q g k at (rw (opener-with before w q m, location-with before w q m, due-next) at r)
 
@@ -334,5 +338,5 @@ shaped M words formed h = record {
         subst (λ (n : ℕ). AllHold (numberChecks n 0 words)) (sym (counted M 0 words))
         (all-right first (numberChecks (countOf (tableNumber node) words) 0 words) h)
 
-    stands : Stands M W words 16 (lastLocation []) (due M []) 0 words
+    stands : Stands M W words (tableNumber noKind) (lastLocation []) (due M []) 0 words
     stands = stands-from M W words formed [] 0 words (all-left first _ h) numbers tt refl

@@ -1,262 +1,189 @@
--- What a pass over a table keeps of its nodes and their zones: which places are still ahead, and which no later word changes. Assumes nothing.
+-- What a pass over a table keeps of its nodes and their zones: what a node's words leave, and that no later word changes it. Assumes nothing.
 use Prim.Native.Nat.{ℕ, suc, _+_, _-_, _≤_, _<_}
 use mathlib.Core.Path.{_≡_, refl, sym, ap, _∙_}
-use mathlib.Core.Logic.{_≢_}
 use mathlib.Core.List.{List, [], _∷_}
 use native.Mathlib.Nat.{add-zero}
 use native.Mathlib.Omega.{arith}
-use lib.ListN.{length, getD, set, drop, length-set}
-use lib.Seq.{getD-set-same, getD-set-other}
+use lib.ListN.{length, getD, drop}
 use Rattle.zone.specs.Words.{kind, zoneOf}
 use Rattle.zone.specs.Squares.{universe}
 use Rattle.zone.specs.Reading.{withWord}
+use Rattle.zone.specs.Stores.{zoneAt}
 use Rattle.zone.specs.declared.zones.Zone.{Zone as Square}
-use Rattle.model.specs.TableKinds.{TableKind, noKind, tableHead, node, nodeBound, value, blocked, successor, startNode, tableNumber, tableKindOf}
+use Rattle.zone.proofs.StoreLaws.{put-apart, word-here, word-apart}
+use Rattle.model.specs.TableKinds.{TableKind, tableHead, node, nodeBound, value, blocked, successor, startNode, tableNumber, tableKindOf}
 use Rattle.model.specs.Indexed.{withBounds}
 use Rattle.model.specs.declared.index.Index.{Index}
 use Rattle.table.specs.Fields.{valueOf}
 use Rattle.table.specs.Table.{leadingBounds}
+use Rattle.table.specs.Nodes.{entryOf, entryAt}
 use Rattle.table.specs.Scan.{seenWith, seenWithKind}
-use Rattle.table.specs.Index.{noEntry, nodesWith, zonesWith}
+use Rattle.table.specs.Index.{Kept, StoresFit, keptWithKind, keptWith}
 use Rattle.table.specs.declared.seen.Seen.{Seen}
 use Rattle.table.specs.declared.nodes.NodeEntry.{NodeEntry}
-use Rattle.table.proofs.Run.{nodesEnd, zonesEnd}
+use Rattle.table.proofs.NodeLaws.{entry-here, entry-apart}
+use Rattle.table.proofs.ScanLaws.{as-long}
+use Rattle.table.proofs.Run.{keptEnd}
 use Rattle.table.proofs.Walk.{Step, a-head, a-node, a-bound, a-value, a-blocked, a-successor, a-start, Walk}
 
--- ---- what is kept with a word more, by its kind: a value completes the last node, and a bound goes to its zone
-
-unfoldable pub nodesWithKind : TableKind → Seen → ℕ → ℕ → List NodeEntry → List NodeEntry
-nodesWithKind noKind s w p ns = ns
-nodesWithKind tableHead s w p ns = ns
-nodesWithKind node s w p ns = ns
-nodesWithKind nodeBound s w p ns = ns
-nodesWithKind value s w p ns = set ns (s .nodes - 1) (record { location = s .location; value = valueOf w; place = p })
-nodesWithKind blocked s w p ns = ns
-nodesWithKind successor s w p ns = ns
-nodesWithKind startNode s w p ns = ns
-
-unfoldable pub zonesWithKind : TableKind → Seen → ℕ → List Square → List Square
-zonesWithKind noKind s w zs = zs
-zonesWithKind tableHead s w zs = zs
-zonesWithKind node s w zs = zs
-zonesWithKind nodeBound s w zs = set zs (s .nodes - 1) (withWord w (getD zs (s .nodes - 1) universe))
-zonesWithKind value s w zs = zs
-zonesWithKind blocked s w zs = zs
-zonesWithKind successor s w zs = zs
-zonesWithKind startNode s w zs = zs
-
-nodes-by-kind : (k : TableKind) (s : Seen) (w p : ℕ) (ns : List NodeEntry) → kind w ≡ tableNumber k → nodesWith s w p ns ≡ nodesWithKind k s w p ns
-unfolding nodesWith nodesWithKind
-nodes-by-kind noKind s w p ns e = rw e
-nodes-by-kind tableHead s w p ns e = rw e
-nodes-by-kind node s w p ns e = rw e
-nodes-by-kind nodeBound s w p ns e = rw e
-nodes-by-kind value s w p ns e = rw e
-nodes-by-kind blocked s w p ns e = rw e
-nodes-by-kind successor s w p ns e = rw e
-nodes-by-kind startNode s w p ns e = rw e
-
-zones-by-kind : (k : TableKind) (s : Seen) (w : ℕ) (zs : List Square) → kind w ≡ tableNumber k → zonesWith s w zs ≡ zonesWithKind k s w zs
-unfolding zonesWith zonesWithKind
-zones-by-kind noKind s w zs e = rw e
-zones-by-kind tableHead s w zs e = rw e
-zones-by-kind node s w zs e = rw e
-zones-by-kind nodeBound s w zs e = rw e
-zones-by-kind value s w zs e = rw e
-zones-by-kind blocked s w zs e = rw e
-zones-by-kind successor s w zs e = rw e
-zones-by-kind startNode s w zs e = rw e
-
--- what holds while no check has failed: the arrays keep their lengths, the zones of the nodes to come hold the universe, and behind a node
--- word there is a node
-pub record Good (s : Seen) (ns : List NodeEntry) (zs : List Square) : Type 0 where
-  pub entries : length ns ≡ 64
-  pub squares : length zs ≡ 64
+-- what holds while no check has failed: the stores have room, behind a node word there is a node, and a location is a number of four bits
+pub record Good (s : Seen) (k : Kept) : Type 0 where
+  pub stores : StoresFit (k .nodes) (k .zones)
   pub limit : s .nodes ≤ 64
-  pub begun : s .opener ≡ 8 → 1 ≤ s .nodes
-  pub fresh : (q : ℕ) → s .nodes ≤ q → q < 64 → getD zs q universe ≡ universe
+  pub begun : s .opener ≡ tableNumber node → 1 ≤ s .nodes
+  pub location : s .location < 16
 
--- a word that begins no node and adds nothing to what is kept
-good-as : (s t : Seen) (ns : List NodeEntry) (zs : List Square) → t .nodes ≡ s .nodes → t .opener ≢ 8 → Good s ns zs → Good t ns zs
-good-as s t ns zs e n g =
-    let limit : s .nodes ≤ 64 = g .limit in
-    record {
-      entries = g .entries;
-      squares = g .squares;
-      limit = omega arith;
-      begun = λ o. absurd (n o);
-      fresh = λ q m l. g .fresh q (omega arith) l;
-    }
+module _ (x : Index) (s : Seen) (w p : ℕ) (kept : Kept) where
+  pub good-with : (k : TableKind) → Step s w k → Good s kept → Good (seenWithKind k x s w p) (keptWithKind k s w p kept)
+  unfolding seenWithKind
+  good-with k d g = record { stores = stores k; limit = limit k d; begun = begun k d; location = location k d }
+    where
+      stores : (k : TableKind) → let next : Kept = keptWithKind k s w p kept in StoresFit (next .nodes) (next .zones)
+      stores k = let h = as-long k s w p kept in let room = g .stores in omega arith
 
-module _ (x : Index) (s : Seen) (w p : ℕ) (ns : List NodeEntry) (zs : List Square) where
-  pub good-with :
-      (k : TableKind) → Step s k → Good s ns zs → Good (seenWithKind k x s w p) (nodesWithKind k s w p ns) (zonesWithKind k s w zs)
-  unfolding seenWithKind nodesWithKind zonesWithKind
-  good-with tableHead (a-head e) g = good-as s _ ns zs refl (λ o. omega arith) g
-  good-with node (a-node a l) g = record {
-    entries = g .entries;
-    squares = g .squares;
-    limit = omega arith;
-    begun = λ o. omega arith;
-    fresh = λ q m n. g .fresh q (omega arith) n;
-  }
-  good-with nodeBound (a-bound e) g =
-      let one : 1 ≤ s .nodes = g .begun e in
-      record {
-        entries = g .entries;
-        squares = length-set zs (s .nodes - 1) _ ∙ g .squares;
-        limit = g .limit;
-        begun = g .begun;
-        fresh = λ q m n. getD-set-other zs (s .nodes - 1) q _ universe (omega arith) ∙ g .fresh q m n;
-      }
-  good-with value (a-value e) g = record {
-    entries = length-set ns (s .nodes - 1) _ ∙ g .entries;
-    squares = g .squares;
-    limit = g .limit;
-    begun = λ o. absurd (omega arith);
-    fresh = g .fresh;
-  }
-  good-with blocked (a-blocked a) g = good-as s _ ns zs refl (λ o. omega arith) g
-  good-with successor (a-successor a) g = good-as s _ ns zs refl (λ o. omega arith) g
-  good-with startNode (a-start a) g = good-as s _ ns zs refl (λ o. omega arith) g
+      limit : (k : TableKind) → Step s w k → seenWithKind k x s w p .nodes ≤ 64
+      limit tableHead (a-head e) = g .limit
+      limit node (a-node a l) = omega arith
+      limit nodeBound (a-bound e i j) = g .limit
+      limit value (a-value e) = g .limit
+      limit blocked (a-blocked a) = g .limit
+      limit successor (a-successor a) = g .limit
+      limit startNode (a-start a) = g .limit
+
+      begun : (k : TableKind) → Step s w k → seenWithKind k x s w p .opener ≡ tableNumber node → 1 ≤ seenWithKind k x s w p .nodes
+      begun tableHead (a-head e) o = absurd (omega arith)
+      begun node (a-node a l) o = omega arith
+      begun nodeBound (a-bound e i j) o = g .begun o
+      begun value (a-value e) o = absurd (omega arith)
+      begun blocked (a-blocked a) o = absurd (omega arith)
+      begun successor (a-successor a) o = absurd (omega arith)
+      begun startNode (a-start a) o = absurd (omega arith)
+
+      location : (k : TableKind) → Step s w k → seenWithKind k x s w p .location < 16
+      location tableHead (a-head e) = g .location
+      location node (a-node a l) = omega arith
+      location nodeBound (a-bound e i j) = g .location
+      location value (a-value e) = g .location
+      location blocked (a-blocked a) = g .location
+      location successor (a-successor a) = g .location
+      location startNode (a-start a) = g .location
 
 -- ---- no later word changes what is kept of a node whose value was read
 
 -- the node q was read: it is not the last one, or the last one's value was read
 record Settled (s : Seen) (q : ℕ) : Type 0 where
   below : q < s .nodes
-  apart : s .opener ≡ 8 → suc q < s .nodes
+  apart : s .opener ≡ tableNumber node → suc q < s .nodes
 
--- ms and ys keep the same of the node q as ns and zs
-record Same (q : ℕ) (ns ms : List NodeEntry) (zs ys : List Square) : Type 0 where
-  entry : getD ms q noEntry ≡ getD ns q noEntry
-  zone : getD ys q universe ≡ getD zs q universe
+-- the same is kept of the node q
+record Same (q : ℕ) (old new : Kept) : Type 0 where
+  entry : entryAt (new .nodes) q ≡ entryAt (old .nodes) q
+  zone : zoneAt (new .zones) q ≡ zoneAt (old .zones) q
 
-module _ (x : Index) (s : Seen) (w p q : ℕ) (ns : List NodeEntry) (zs : List Square) where
-  settled-with : (k : TableKind) → Step s k → Settled s q → Settled (seenWithKind k x s w p) q
+module _ (x : Index) (s : Seen) (w p q : ℕ) (kept : Kept) where
+  settled-with : (k : TableKind) → Step s w k → Settled s q → Settled (seenWithKind k x s w p) q
   unfolding seenWithKind
   settled-with tableHead (a-head e) h = record { below = h .below; apart = λ o. absurd (omega arith) }
   settled-with node (a-node a l) h = let i : q < s .nodes = h .below in record { below = omega arith; apart = λ o. omega arith }
-  settled-with nodeBound (a-bound e) h = h
+  settled-with nodeBound (a-bound e i j) h = h
   settled-with value (a-value e) h = record { below = h .below; apart = λ o. absurd (omega arith) }
   settled-with blocked (a-blocked a) h = record { below = h .below; apart = λ o. absurd (omega arith) }
   settled-with successor (a-successor a) h = record { below = h .below; apart = λ o. absurd (omega arith) }
   settled-with startNode (a-start a) h = record { below = h .below; apart = λ o. absurd (omega arith) }
 
-  same-with : (k : TableKind) → Step s k → Settled s q → Same q ns (nodesWithKind k s w p ns) zs (zonesWithKind k s w zs)
-  unfolding nodesWithKind zonesWithKind
+  same-with : (k : TableKind) → Step s w k → Settled s q → Same q kept (keptWithKind k s w p kept)
+  unfolding keptWithKind
   same-with tableHead (a-head e) h = record { entry = refl; zone = refl }
-  same-with node (a-node a l) h = record { entry = refl; zone = refl }
-  same-with nodeBound (a-bound e) h =
-      let i : suc q < s .nodes = h .apart e in
-      record { entry = refl; zone = getD-set-other zs (s .nodes - 1) q _ universe (omega arith) }
+  same-with node (a-node a l) h =
+      let i : q < s .nodes = h .below in
+      record { entry = refl; zone = put-apart universe (s .nodes) (kept .zones) q (λ e. omega arith) }
+  same-with nodeBound (a-bound e i j) h =
+      let l : suc q < s .nodes = h .apart e in
+      record { entry = refl; zone = word-apart w (s .nodes - 1) (kept .zones) i j q (λ e. omega arith) }
   same-with value (a-value e) h =
-      let i : suc q < s .nodes = h .apart e in
-      record { entry = getD-set-other ns (s .nodes - 1) q _ noEntry (omega arith); zone = refl }
+      let l : suc q < s .nodes = h .apart e in
+      record { entry = entry-apart (entryOf (s .location) w p) (s .nodes - 1) (kept .nodes) q (λ e. omega arith); zone = refl }
   same-with blocked (a-blocked a) h = record { entry = refl; zone = refl }
   same-with successor (a-successor a) h = record { entry = refl; zone = refl }
   same-with startNode (a-start a) h = record { entry = refl; zone = refl }
 
 module _ (x : Index) where
-  pub nodes-step :
-      (s : Seen) (w p : ℕ) (ns : List NodeEntry) (ws : List ℕ) → kind w ≡ tableNumber (tableKindOf w) →
-      nodesEnd x s ns p (w ∷ ws) ≡ nodesEnd x (seenWith x s w p) (nodesWithKind (tableKindOf w) s w p ns) (suc p) ws
-  unfolding nodesEnd
-  nodes-step s w p ns ws e =
-      ap (λ (ns : List NodeEntry). nodesEnd x (seenWith x s w p) ns (suc p) ws) (nodes-by-kind (tableKindOf w) s w p ns e)
-
-  pub zones-step :
-      (s : Seen) (w p : ℕ) (zs : List Square) (ws : List ℕ) → kind w ≡ tableNumber (tableKindOf w) →
-      zonesEnd x s zs p (w ∷ ws) ≡ zonesEnd x (seenWith x s w p) (zonesWithKind (tableKindOf w) s w zs) (suc p) ws
-  unfolding zonesEnd
-  zones-step s w p zs ws e =
-      ap (λ (zs : List Square). zonesEnd x (seenWith x s w p) zs (suc p) ws) (zones-by-kind (tableKindOf w) s w zs e)
-
-  settled-end :
-      (s : Seen) (p q : ℕ) (ns : List NodeEntry) (zs : List Square) (ws : List ℕ) → Walk x s p ws → Settled s q →
-      Same q ns (nodesEnd x s ns p ws) zs (zonesEnd x s zs p ws)
-  unfolding nodesEnd zonesEnd seenWith
-  settled-end s p q ns zs [] r h = record { entry = refl; zone = refl }
-  settled-end s p q ns zs (w ∷ ws) r h =
+  settled-end : (s : Seen) (p q : ℕ) (kept : Kept) (ws : List ℕ) → Walk x s p ws → Settled s q → Same q kept (keptEnd x s kept p ws)
+  unfolding keptEnd keptWith seenWith
+  settled-end s p q kept [] r h = record { entry = refl; zone = refl }
+  settled-end s p q kept (w ∷ ws) r h =
       let k : TableKind = tableKindOf w in
-      let one = same-with x s w p q ns zs k (r .1) h in
-      let rest = settled-end (seenWith x s w p) (suc p) q (nodesWithKind k s w p ns) (zonesWithKind k s w zs) ws (r .2)
-      (settled-with x s w p q ns zs k (r .1) h) in
-      record {
-        entry = ap (λ (ns : List NodeEntry). getD ns q noEntry) (nodes-step s w p ns ws (r .0)) ∙ rest .entry ∙ one .entry;
-        zone = ap (λ (zs : List Square). getD zs q universe) (zones-step s w p zs ws (r .0)) ∙ rest .zone ∙ one .zone;
-      }
+      let one = same-with x s w p q kept k (r .1) h in
+      let rest = settled-end (seenWith x s w p) (suc p) q (keptWithKind k s w p kept) ws (r .2) (settled-with x s w p q kept k (r .1) h) in
+      record { entry = rest .entry ∙ one .entry; zone = rest .zone ∙ one .zone }
 
 -- ---- the node whose word was the last that is no bound, once its value is read
 
-bound-leads : (w : ℕ) (ws : List ℕ) → kind w ≡ 5 → leadingBounds (w ∷ ws) ≡ w ∷ leadingBounds ws
+bound-leads : (w : ℕ) (ws : List ℕ) → kind w ≡ tableNumber nodeBound → leadingBounds (w ∷ ws) ≡ w ∷ leadingBounds ws
 unfolding leadingBounds
 bound-leads w ws e = rw e
 
-value-ends : (w : ℕ) (ws : List ℕ) → kind w ≡ 9 → leadingBounds (w ∷ ws) ≡ []
+value-ends : (w : ℕ) (ws : List ℕ) → kind w ≡ tableNumber value → leadingBounds (w ∷ ws) ≡ []
 unfolding leadingBounds
 value-ends w ws e = rw e
 
 -- what is kept at n of a node of the location l, whose bounds and value are at the front of the words from the index p on; z is its zone so far
-pub record Kept (n l p : ℕ) (ws : List ℕ) (z : Square) (ns : List NodeEntry) (zs : List Square) : Type 0 where
-  pub location : getD ns n noEntry .location ≡ l
-  pub value : getD ns n noEntry .value ≡ valueOf (getD (drop (length (leadingBounds ws)) ws) 0 0)
-  pub place : getD ns n noEntry .place ≡ p + length (leadingBounds ws)
-  pub zone : getD zs n universe ≡ withBounds (zoneOf (leadingBounds ws)) z
+pub record KeptAt (n l p : ℕ) (ws : List ℕ) (z : Square) (k : Kept) : Type 0 where
+  pub location : entryAt (k .nodes) n .location ≡ l
+  pub value : entryAt (k .nodes) n .value ≡ valueOf (getD (drop (length (leadingBounds ws)) ws) 0 0)
+  pub place : entryAt (k .nodes) n .place ≡ p + length (leadingBounds ws)
+  pub zone : zoneAt (k .zones) n ≡ withBounds (zoneOf (leadingBounds ws)) z
 
-module _ (x : Index) (s : Seen) (w p : ℕ) (ns : List NodeEntry) (zs : List Square) (ws : List ℕ) (ms : List NodeEntry) (ys : List Square)
-    (g : Good s ns zs) (o : s .opener ≡ 8) where
+module _ (x : Index) (s : Seen) (w p : ℕ) (kept : Kept) (ws : List ℕ) (end : Kept) (g : Good s kept) (o : s .opener ≡ tableNumber node) where
   kept-with :
-      (k : TableKind) → kind w ≡ tableNumber k → Step s k →
-      (Settled (seenWithKind k x s w p) (s .nodes - 1) → Same (s .nodes - 1) (nodesWithKind k s w p ns) ms (zonesWithKind k s w zs) ys) →
-      (seenWithKind k x s w p .opener ≡ 8 →
-      Kept (seenWithKind k x s w p .nodes - 1) (seenWithKind k x s w p .location) (suc p) ws
-      (getD (zonesWithKind k s w zs) (seenWithKind k x s w p .nodes - 1) universe) ms ys) →
-      Kept (s .nodes - 1) (s .location) p (w ∷ ws) (getD zs (s .nodes - 1) universe) ms ys
-  unfolding seenWithKind nodesWithKind zonesWithKind zoneOf withBounds withWord
-  kept-with tableHead i (a-head e) f h = absurd (omega arith)
-  kept-with node i (a-node a l) f h = absurd (a .not-node o)
-  kept-with nodeBound i (a-bound e) f h =
+      (k : TableKind) → kind w ≡ tableNumber k → Step s w k →
+      (Settled (seenWithKind k x s w p) (s .nodes - 1) → Same (s .nodes - 1) (keptWithKind k s w p kept) end) →
+      (seenWithKind k x s w p .opener ≡ tableNumber node →
+      KeptAt (seenWithKind k x s w p .nodes - 1) (seenWithKind k x s w p .location) (suc p) ws
+      (zoneAt (keptWithKind k s w p kept .zones) (seenWithKind k x s w p .nodes - 1)) end) →
+      KeptAt (s .nodes - 1) (s .location) p (w ∷ ws) (zoneAt (kept .zones) (s .nodes - 1)) end
+  unfolding seenWithKind keptWithKind zoneOf withBounds withWord
+  kept-with tableHead n (a-head e) f h = absurd (omega arith)
+  kept-with node n (a-node a l) f h = absurd (a .not-node o)
+  kept-with nodeBound n (a-bound e i j) f h =
       let r = h e in
       let one : 1 ≤ s .nodes = g .begun o in
       let limit : s .nodes ≤ 64 = g .limit in
-      let size : length zs ≡ 64 = g .squares in
-      let place : getD ms (s .nodes - 1) noEntry .place ≡ suc p + length (leadingBounds ws) = r .place in
+      let room : 1600 ≤ length (kept .zones) = g .stores .zones in
+      let place : entryAt (end .nodes) (s .nodes - 1) .place ≡ suc p + length (leadingBounds ws) = r .place in
       record {
         location = r .location;
-        value = rw (bound-leads w ws i) (r .value);
-        place = rw (bound-leads w ws i) (omega arith);
-        zone = rw (bound-leads w ws i)
-            (r .zone ∙ ap (withBounds (zoneOf (leadingBounds ws))) (getD-set-same zs (s .nodes - 1) _ universe (omega arith)));
+        value = rw (bound-leads w ws n) (r .value);
+        place = rw (bound-leads w ws n) (omega arith);
+        zone = rw (bound-leads w ws n)
+            (r .zone ∙ ap (withBounds (zoneOf (leadingBounds ws))) (word-here w (s .nodes - 1) (kept .zones) i j (omega arith)));
       }
-  kept-with value i (a-value e) f h =
+  kept-with value n (a-value e) f h =
       let one : 1 ≤ s .nodes = g .begun o in
       let limit : s .nodes ≤ 64 = g .limit in
-      let size : length ns ≡ 64 = g .entries in
+      let location : s .location < 16 = g .location in
+      let room : 192 ≤ length (kept .nodes) = g .stores .nodes in
       let r = f (record { below = omega arith; apart = λ o. absurd (omega arith) }) in
-      let entry = r .entry ∙ getD-set-same ns (s .nodes - 1) _ noEntry (omega arith) in
+      let entry = r .entry ∙ entry-here (entryOf (s .location) w p) (s .nodes - 1) (kept .nodes) (omega arith) (omega arith) (omega arith) in
       record {
-        location = ap (λ (n : NodeEntry). n .location) entry;
-        value = rw (value-ends w ws i) (ap (λ (n : NodeEntry). n .value) entry);
-        place = rw (value-ends w ws i) (ap (λ (n : NodeEntry). n .place) entry ∙ sym (add-zero p));
-        zone = rw (value-ends w ws i) (r .zone);
+        location = ap (λ (N : NodeEntry). N .location) entry;
+        value = rw (value-ends w ws n) (ap (λ (N : NodeEntry). N .value) entry);
+        place = rw (value-ends w ws n) (ap (λ (N : NodeEntry). N .place) entry ∙ sym (add-zero p));
+        zone = rw (value-ends w ws n) (r .zone);
       }
-  kept-with blocked i (a-blocked a) f h = absurd (a .not-node o)
-  kept-with successor i (a-successor a) f h = absurd (a .not-node o)
-  kept-with startNode i (a-start a) f h = absurd (a .not-node o)
+  kept-with blocked n (a-blocked a) f h = absurd (a .not-node o)
+  kept-with successor n (a-successor a) f h = absurd (a .not-node o)
+  kept-with startNode n (a-start a) f h = absurd (a .not-node o)
 
 module _ (x : Index) where
   pub kept-end :
-      (s : Seen) (p : ℕ) (ns : List NodeEntry) (zs : List Square) (ws : List ℕ) → Walk x s p ws → Good s ns zs → s .opener ≡ 8 →
-      Kept (s .nodes - 1) (s .location) p ws (getD zs (s .nodes - 1) universe) (nodesEnd x s ns p ws) (zonesEnd x s zs p ws)
-  unfolding seenWith
-  kept-end s p ns zs [] r g o = absurd (omega arith)
-  kept-end s p ns zs (w ∷ ws) r g o =
+      (s : Seen) (p : ℕ) (kept : Kept) (ws : List ℕ) → Walk x s p ws → Good s kept → s .opener ≡ tableNumber node →
+      KeptAt (s .nodes - 1) (s .location) p ws (zoneAt (kept .zones) (s .nodes - 1)) (keptEnd x s kept p ws)
+  unfolding keptEnd keptWith seenWith
+  kept-end s p kept [] r g o = absurd (omega arith)
+  kept-end s p kept (w ∷ ws) r g o =
       let k : TableKind = tableKindOf w in
-      let ms : List NodeEntry = nodesWithKind k s w p ns in
-      let ys : List Square = zonesWithKind k s w zs in
+      let more : Kept = keptWithKind k s w p kept in
       let t : Seen = seenWith x s w p in
-      rw (nodes-step x s w p ns ws (r .0), zones-step x s w p zs ws (r .0))
-      (kept-with x s w p ns zs ws (nodesEnd x t ms (suc p) ws) (zonesEnd x t ys (suc p) ws) g o k (r .0) (r .1)
-      (settled-end x t (suc p) (s .nodes - 1) ms ys ws (r .2))
-      (kept-end t (suc p) ms ys ws (r .2) (good-with x s w p ns zs k (r .1) g)))
+      kept-with x s w p kept ws (keptEnd x t more (suc p) ws) g o k (r .0) (r .1) (settled-end x t (suc p) (s .nodes - 1) more ws (r .2))
+      (kept-end t (suc p) more ws (r .2) (good-with x s w p kept k (r .1) g))

@@ -1,16 +1,16 @@
 -- Laws of the checks on a table's word, by its kind. Assumes nothing.
 use Prim.Native.Nat.{ℕ}
-use mathlib.Core.Path.{_≡_, refl}
+use mathlib.Core.Path.{_≡_, refl, sym}
 use mathlib.Core.Bool.{Bool, true, false, not, _||_}
 use borrow.Author.Tests.{eqb-true, eqb-false}
 use lib.Dec.{eqb, ltb}
-use Rattle.zone.specs.Words.{kind}
+use Rattle.zone.specs.Words.{kind, boundFields?}
 use Rattle.model.specs.TableKinds.{TableKind, noKind, tableHead, node, nodeBound, value, blocked, successor, startNode, tableNumber}
 use Rattle.table.specs.Fields.{fields?}
 use Rattle.table.specs.Reading.{limit?}
 use Rattle.table.specs.Scan.{rowsAllowKind?, rowsAllowAt?, fieldsAt?, limitAt?}
 use Rattle.table.specs.declared.seen.Seen.{Seen}
-use Rattle.table.proofs.KindLaws.{kind-is, by-kind}
+use Rattle.table.proofs.KindLaws.{kind-is, by-kind, IsNot}
 
 module _ (s : Seen) (w : ℕ) where
   -- the checks on a word with the number of a kind
@@ -24,7 +24,7 @@ module _ (s : Seen) (w : ℕ) where
   fields-at clocks locations k e = rw (kind-is k w e)
 
   -- a word that is no node, row or start node stands whatever rows are due
-  pub rows-apart : (kind w ≡ 8 → ⊥) → (kind w ≡ 10 → ⊥) → (kind w ≡ 11 → ⊥) → (kind w ≡ 12 → ⊥) → true ≡ rowsAllowAt? s w
+  pub rows-apart : IsNot node w → IsNot blocked w → IsNot successor w → IsNot startNode w → true ≡ rowsAllowAt? s w
   unfolding rowsAllowAt? rowsAllowKind?
   rows-apart n a b c = by-kind (λ (k : TableKind). true ≡ rowsAllowKind? k s) w refl other
     where
@@ -39,7 +39,7 @@ module _ (s : Seen) (w : ℕ) where
       other startNode q = absurd (c q)
 
   -- the limit is one on nodes alone
-  no-limit : (kind w ≡ 8 → ⊥) → true ≡ limitAt? s w
+  no-limit : IsNot node w → true ≡ limitAt? s w
   unfolding limitAt? limit?
   no-limit n = by-kind (λ (k : TableKind). true ≡ limit? k (s .nodes)) w refl other
     where
@@ -53,15 +53,29 @@ module _ (s : Seen) (w : ℕ) where
       other successor q = refl
       other startNode q = refl
 
-  node-limit : kind w ≡ 8 → ltb (s .nodes) 64 ≡ limitAt? s w
+  node-limit : kind w ≡ tableNumber node → ltb (s .nodes) 64 ≡ limitAt? s w
   unfolding limitAt? limit?
   node-limit e = rw (kind-is node w e)
 
-  pub limit-is : (not (eqb (kind w) 8) || ltb (s .nodes) 64) ≡ limitAt? s w
-  limit-is = by (eqb (kind w) 8) (λ e. node-limit (eqb-true _ _ e)) (λ e. no-limit (eqb-false _ _ e))
+  pub limit-is : (not (eqb (kind w) (tableNumber node)) || ltb (s .nodes) 64) ≡ limitAt? s w
+  limit-is = by (eqb (kind w) (tableNumber node)) (λ e. node-limit (eqb-true _ _ e)) (λ e. no-limit (eqb-false _ _ e))
     where
       by :
           (b : Bool) → (b ≡ true → ltb (s .nodes) 64 ≡ limitAt? s w) → (b ≡ false → true ≡ limitAt? s w) →
           (not b || ltb (s .nodes) 64) ≡ limitAt? s w
       by true f g = f refl
       by false f g = g refl
+
+  -- a bound stands whatever rows are due, and has no limit
+  module _ (e : kind w ≡ tableNumber nodeBound) where
+    pub bound-rows : rowsAllowAt? s w ≡ true
+    unfolding rowsAllowKind?
+    bound-rows = sym (rows-at nodeBound e)
+
+    pub bound-fields : (clocks locations : ℕ) → boundFields? clocks w ≡ fieldsAt? s clocks locations w
+    unfolding fields?
+    bound-fields clocks locations = fields-at clocks locations nodeBound e
+
+    pub bound-limit : limitAt? s w ≡ true
+    unfolding limitAt? limit?
+    bound-limit = rw (kind-is nodeBound w e)

@@ -2,6 +2,7 @@
 pub mod Fields
 pub mod Table
 pub mod Reading
+pub mod Nodes
 pub mod Scan
 pub mod Index
 pub mod Indexed

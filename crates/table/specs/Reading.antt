@@ -2,7 +2,7 @@
 use Prim.Native.Nat.{ℕ, suc}
 use mathlib.Core.Bool.{Bool, true, false, not, cond, _&&_, _||_}
 use mathlib.Core.List.{List, [], _∷_, _++_}
-use lib.ListN.{getD, length}
+use lib.ListN.{getD, length, drop}
 use lib.Dec.{eqb, ltb}
 use Rattle.zone.specs.Words.{kind}
 use Rattle.zone.specs.Checks.{Answer, refused, accepted, Check, test}
@@ -24,13 +24,15 @@ unfoldable pub lastLocation : List ℕ → ℕ
 lastLocation [] = 0
 lastLocation (w ∷ ws) = cond (isTable node w) (locationOf w) (lastLocation ws)
 
--- the actions of the last node whose row is not complete, each by the number of its edges, and how many B words stand in the first such row
+-- the actions of the last node whose row is not complete, each by the number of its edges, how many B words stand in the first such row, and
+-- behind a value whether the node's location is a target
 pub record Due : Type 0 where
   pub rows : List ℕ
   pub begun : ℕ
+  pub target : Bool
 
 abbrev pub noneDue : Due
-noneDue = record { rows = []; begun = 0 }
+noneDue = record { rows = []; begun = 0; target = false }
 
 unfoldable pub edgeCounts : List Action → List ℕ
 edgeCounts [] = []
@@ -38,17 +40,17 @@ edgeCounts (A ∷ As) = length (A .edges) ∷ edgeCounts As
 
 -- behind a value all rows of the node's location are due
 unfoldable pub allDue : Model → ℕ → Due
-allDue M l = record { rows = edgeCounts (rowActions (locationAt M l)); begun = 0 }
+allDue M l = record { rows = edgeCounts (rowActions (locationAt M l)); begun = 0; target = locationAt M l .target }
 
 -- an A completes a row
-unfoldable pub dueAfterBlocked : List ℕ → Due
-dueAfterBlocked [] = noneDue
-dueAfterBlocked (n ∷ ns) = record { rows = ns; begun = 0 }
+unfoldable pub dueAfterRow : Due → Due
+dueAfterRow d = record { rows = drop 1 (d .rows); begun = 0; target = d .target }
 
 -- a B completes a row where it is the last of its action's edges
-unfoldable pub dueAfterSuccessor : ℕ → List ℕ → Due
-dueAfterSuccessor begun [] = noneDue
-dueAfterSuccessor begun (n ∷ ns) = cond (eqb (suc begun) n) (record { rows = ns; begun = 0 }) (record { rows = n ∷ ns; begun = suc begun })
+unfoldable pub dueAfterSuccessor : Due → Due
+dueAfterSuccessor d =
+    let done : Bool = eqb (suc (d .begun)) (getD (d .rows) 0 0) in
+    record { rows = cond done (drop 1 (d .rows)) (d .rows); begun = cond done 0 (suc (d .begun)); target = d .target }
 
 -- with a word of a kind more, behind a node of the location l
 unfoldable pub dueWith : TableKind → Model → ℕ → Due → Due
@@ -57,8 +59,8 @@ dueWith tableHead M l d = noneDue
 dueWith node M l d = noneDue
 dueWith nodeBound M l d = noneDue
 dueWith value M l d = allDue M l
-dueWith blocked M l d = dueAfterBlocked (d .rows)
-dueWith successor M l d = dueAfterSuccessor (d .begun) (d .rows)
+dueWith blocked M l d = dueAfterRow d
+dueWith successor M l d = dueAfterSuccessor d
 dueWith startNode M l d = noneDue
 
 unfoldable pub due : Model → List ℕ → Due

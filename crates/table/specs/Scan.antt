@@ -2,11 +2,13 @@
 use Prim.Native.Nat.{ℕ, _+_, _-_, _≤_, _<_}
 use mathlib.Core.Path.{_≡_}
 use mathlib.Core.Bool.{Bool, true, false, cond, _&&_}
+use mathlib.Core.List.{List, [], _∷_}
 use lib.ListN.{getD}
-use lib.Dec.{eqb, leb, ltb}
+use lib.Dec.{eqb, ltb}
 use Rattle.zone.specs.Words.{kind}
 use Rattle.model.specs.TableKinds.{TableKind, noKind, tableHead, node, nodeBound, value, blocked, successor, startNode, tableNumber, tableKindOf}
-use Rattle.model.specs.Grammar.{tableFollows?}
+use Rattle.model.specs.Grammar.{numbered?, tableFollows?}
+use Rattle.model.specs.Openers.{tableOpener?}
 use Rattle.model.specs.declared.index.Index.{Index}
 use Rattle.table.specs.Fields.{wholeOf, locationOf, numberOf, fields?}
 use Rattle.table.specs.Reading.{limit?}
@@ -15,19 +17,32 @@ use Rattle.table.specs.declared.seen.Fault.{Fault}
 use Rattle.table.specs.declared.seen.Fault.the-variants as fault
 
 abbrev pub nothing : Seen
-nothing = record { opener = tableNumber noKind; whole = 0; nodes = 0; location = 0; action = 0; last = 0; begun = 0; start = 0; place = 0 }
+nothing =
+    record {
+      opener = tableNumber noKind;
+      whole = 0;
+      nodes = 0;
+      location = 0;
+      target = false;
+      action = 0;
+      rows = 0;
+      size = 0;
+      begun = 0;
+      start = 0;
+      place = 0;
+    }
 
 -- ---- the checks of the next word
 
 unfoldable pub rowsAllowKind? : TableKind → Seen → Bool
 rowsAllowKind? noKind s = true
 rowsAllowKind? tableHead s = true
-rowsAllowKind? node s = leb (s .last) (s .action)
+rowsAllowKind? node s = eqb (s .rows) 0
 rowsAllowKind? nodeBound s = true
 rowsAllowKind? value s = true
-rowsAllowKind? blocked s = ltb (s .action) (s .last) && eqb (s .begun) 0
-rowsAllowKind? successor s = ltb (s .action) (s .last)
-rowsAllowKind? startNode s = leb (s .last) (s .action)
+rowsAllowKind? blocked s = ltb 0 (s .rows) && eqb (s .begun) 0
+rowsAllowKind? successor s = ltb 0 (s .rows)
+rowsAllowKind? startNode s = eqb (s .rows) 0
 
 unfoldable pub rowsAllowAt? : Seen → ℕ → Bool
 rowsAllowAt? s w = rowsAllowKind? (tableKindOf w) s
@@ -50,6 +65,32 @@ faultAt s clocks locations w =
 unfoldable pub lastFault : Seen → Fault
 lastFault s = cond (eqb (s .opener) (tableNumber startNode)) fault.None fault.Kind
 
+-- ---- rows, by a model's index
+
+-- the actions of a location
+unfoldable pub firstRow : Index → ℕ → ℕ
+firstRow x l = getD (x .actions) l 0
+
+unfoldable pub endRow : Index → ℕ → ℕ
+endRow x l = getD (x .actions) (l + 1) 0
+
+-- how many rows a node of a location has: one per action, none at a target
+unfoldable pub rowsAt : Index → ℕ → ℕ
+rowsAt x l = cond (getD (x .targets) l false) 0 (endRow x l - firstRow x l)
+
+-- how many edges an action has
+unfoldable pub edgesAt : Index → ℕ → ℕ
+edgesAt x a = getD (x .edges) (a + 1) 0 - getD (x .edges) a 0
+
+-- how many words its row has: one A, or one B per edge
+unfoldable pub rowSize : Bool → ℕ → ℕ
+rowSize true edges = 1
+rowSize false edges = edges
+
+-- how many B words the first of so many rows has, if it is that of the action a; 0 where none is due
+unfoldable pub sizeAt : Index → ℕ → ℕ → ℕ
+sizeAt x a rows = cond (eqb rows 0) 0 (edgesAt x a)
+
 -- ---- what the words come to with a word more
 
 abbrev pub withHead : Seen → ℕ → Seen
@@ -59,8 +100,10 @@ withHead s w =
       whole = wholeOf w;
       nodes = s .nodes;
       location = s .location;
+      target = s .target;
       action = s .action;
-      last = s .last;
+      rows = s .rows;
+      size = s .size;
       begun = s .begun;
       start = s .start;
       place = s .place;
@@ -73,53 +116,63 @@ withNode s w =
       whole = s .whole;
       nodes = s .nodes + 1;
       location = locationOf w;
+      target = s .target;
       action = s .action;
-      last = s .last;
+      rows = s .rows;
+      size = s .size;
       begun = s .begun;
       start = s .start;
       place = s .place;
     }
 
--- the rows of the actions from `first` up to `last` are due
-abbrev pub withValue : Seen → ℕ → ℕ → Seen
-withValue s first last =
+-- the rows of the node's location are due
+abbrev pub withValue : Index → Seen → Seen
+withValue x s =
     record {
       opener = tableNumber value;
       whole = s .whole;
       nodes = s .nodes;
       location = s .location;
-      action = first;
-      last = last;
+      target = getD (x .targets) (s .location) false;
+      action = firstRow x (s .location);
+      rows = rowsAt x (s .location);
+      size = sizeAt x (firstRow x (s .location)) (rowsAt x (s .location));
       begun = 0;
       start = s .start;
       place = s .place;
     }
 
-abbrev pub withBlocked : Seen → Seen
-withBlocked s =
+-- a row is complete with a word of the number o, and the next action's is due, if any
+abbrev pub withRow : Index → Seen → ℕ → Seen
+withRow x s o =
     record {
-      opener = tableNumber blocked;
+      opener = o;
       whole = s .whole;
       nodes = s .nodes;
       location = s .location;
+      target = s .target;
       action = s .action + 1;
-      last = s .last;
+      rows = s .rows - 1;
+      size = sizeAt x (s .action + 1) (s .rows - 1);
       begun = 0;
       start = s .start;
       place = s .place;
     }
 
--- the row's action has so many edges
-abbrev pub withSuccessor : Seen → ℕ → Seen
-withSuccessor s edges =
+-- a successor completes a row where it is the last of its B words
+abbrev pub withSuccessor : Index → Seen → Seen
+withSuccessor x s =
+    let done : Bool = eqb (s .begun + 1) (s .size) in
     record {
       opener = tableNumber successor;
       whole = s .whole;
       nodes = s .nodes;
       location = s .location;
-      action = cond (eqb (s .begun + 1) edges) (s .action + 1) (s .action);
-      last = s .last;
-      begun = cond (eqb (s .begun + 1) edges) 0 (s .begun + 1);
+      target = s .target;
+      action = cond done (s .action + 1) (s .action);
+      rows = cond done (s .rows - 1) (s .rows);
+      size = cond done (sizeAt x (s .action + 1) (s .rows - 1)) (s .size);
+      begun = cond done 0 (s .begun + 1);
       start = s .start;
       place = s .place;
     }
@@ -131,37 +184,23 @@ withStart s w p =
       whole = s .whole;
       nodes = s .nodes;
       location = s .location;
+      target = s .target;
       action = s .action;
-      last = s .last;
+      rows = s .rows;
+      size = s .size;
       begun = s .begun;
       start = numberOf w;
       place = p;
     }
-
--- the first action of a location that has a row, and the end of those: a target has no rows
-unfoldable pub firstRow : Index → ℕ → ℕ
-firstRow x l = cond (getD (x .targets) l false) (getD (x .actions) (l + 1) 0) (getD (x .actions) l 0)
-
-unfoldable pub endRow : Index → ℕ → ℕ
-endRow x l = getD (x .actions) (l + 1) 0
-
--- how many edges an action has
-unfoldable pub edgesAt : Index → ℕ → ℕ
-edgesAt x a = getD (x .edges) (a + 1) 0 - getD (x .edges) a 0
-
--- how many words its row has: one A, or one B per edge
-unfoldable pub rowSize : Bool → ℕ → ℕ
-rowSize true edges = 1
-rowSize false edges = edges
 
 unfoldable pub seenWithKind : TableKind → Index → Seen → ℕ → ℕ → Seen
 seenWithKind noKind x s w p = s
 seenWithKind tableHead x s w p = withHead s w
 seenWithKind node x s w p = withNode s w
 seenWithKind nodeBound x s w p = s
-seenWithKind value x s w p = withValue s (firstRow x (s .location)) (endRow x (s .location))
-seenWithKind blocked x s w p = withBlocked s
-seenWithKind successor x s w p = withSuccessor s (edgesAt x (s .action))
+seenWithKind value x s w p = withValue x s
+seenWithKind blocked x s w p = withRow x s (tableNumber blocked)
+seenWithKind successor x s w p = withSuccessor x s
 seenWithKind startNode x s w p = withStart s w p
 
 unfoldable pub seenWith : Index → Seen → ℕ → ℕ → Seen
@@ -176,14 +215,30 @@ pub record IndexFits (x : Index) : Type 0 where
   pub edges : (l a : ℕ) → l < x .locations → getD (x .actions) l 0 ≤ a → a < getD (x .actions) (l + 1) 0 →
       (getD (x .edges) a 0 < getD (x .edges) (a + 1) 0) × (getD (x .edges) (a + 1) 0 ≤ 128)
 
+-- the openers behind which rows may be due, and those behind which there is a node
+abbrev pub rowOpeners : List TableKind
+rowOpeners = value ∷ blocked ∷ successor ∷ []
+
+abbrev pub nodeOpeners : List TableKind
+nodeOpeners = node ∷ startNode ∷ rowOpeners
+
+-- a number is that of one of these kinds
+abbrev pub oneOf? : List TableKind → ℕ → Bool
+oneOf? ks n = numbered? tableNumber n ks
+
 pub record WithinLimits (x : Index) (s : Seen) : Type 0 where
-  pub opener : (7 ≤ s .opener) × (s .opener ≤ 16)
+  pub opener : tableOpener? (s .opener) ≡ true
   pub nodes : s .nodes ≤ 64
-  -- behind a node word there is a node, and its location exists
-  pub node : 8 ≤ s .opener → s .opener < 16 → (1 ≤ s .nodes) × (s .location < x .locations)
-  pub last : s .last ≤ 32
-  pub action : s .action ≤ s .last
-  -- where rows are due, they are those of actions of the last node's location, and the row begun is not complete
-  pub rows : s .action < s .last →
-      (8 ≤ s .opener) × (s .opener < 16) × (getD (x .actions) (s .location) 0 ≤ s .action) × (s .last ≡ endRow x (s .location))
-  pub begun : s .action < s .last → s .begun < edgesAt x (s .action)
+  -- where there is a node, its location exists
+  pub node : oneOf? nodeOpeners (s .opener) ≡ true → (1 ≤ s .nodes) × (s .location < x .locations)
+  -- a row that is due lacks some word
+  pub begun : 1 ≤ s .rows → (oneOf? nodeOpeners (s .opener) ≡ true) × (s .begun < s .size)
+  pub size : s .size ≤ 128
+  pub action : s .action + s .rows ≤ 32
+  -- the rows behind it are those of actions of the last node's location
+  pub rows : 2 ≤ s .rows → (firstRow x (s .location) ≤ s .action) × (s .action + s .rows ≤ endRow x (s .location))
+
+-- what the size of a row asks: the actions of the rows that are due have places in the index, and the edges of the first end behind its start
+pub record RowFits (x : Index) (a rows : ℕ) : Type 0 where
+  pub action : a + rows ≤ 32
+  pub edges : 1 ≤ rows → getD (x .edges) a 0 ≤ getD (x .edges) (a + 1) 0

@@ -1,16 +1,19 @@
 // Reading a table against a model: refusals 11 to 14, and what judging needs of a table whose words are good.
 ghost use mathlib.Core.Path.{_≡_};
 ghost use Rattle.table.specs.Scan.{IndexFits};
-ghost use Rattle.table.specs.Index.{scanned, numbersAnswer, answerOf, readOf};
+ghost use Rattle.table.specs.Index.{StoresFit, numbersAnswer, answerOf};
 ghost use Rattle.table.specs.Indexed.{ReadFor};
 use crate::fields;
-use crate::nodes::NodeEntry;
 use crate::scan;
 use crate::seen::Fault;
 use model::index::Index;
 use model::kinds;
 use zone::words;
-use zone::zones::Zone;
+
+// How many numbers of nodes, three to a node, and how many keys of zones, 25 to a node, there is room for.
+pub const NODE_NUMBERS: usize = 192;
+
+pub const ZONE_KEYS: usize = 1600;
 
 // Whether the words of a table are good, or the refusal with its place.
 pub enum TableAnswer {
@@ -21,16 +24,14 @@ pub enum TableAnswer {
     NoNode(usize),
 }
 
-// The answer, and beside it what judging needs of a table whose words are good: V, its nodes and their zones, and the number of the start node
-// with the index of its word. Of other words only the answer says anything.
+// The answer, and beside it what judging needs of a table whose words are good: V, how many nodes it has, and the number of the start node with
+// the index of its word. Its nodes and their zones stand in the lent stores. Of other words only the answer says anything.
 pub struct TableRead {
     pub answer: TableAnswer,
     pub whole: u32,
     pub count: usize,
     pub start: u32,
     pub place: usize,
-    pub nodes: [NodeEntry; 64],
-    pub zones: [Zone; 64],
 }
 
 // The answer of a file whose words are good: the first word of kind B or C whose node is not one of so many.
@@ -60,17 +61,14 @@ pub(crate) fn answer_of(fault: Fault, place: usize, list: &[u32], nodes: usize) 
     }
 }
 
-// Reads a table against a model of that index, and keeps what judging needs of it.
-pub fn index_table(index: Index, list: &[u32]) -> TableRead
-    requires { ⌜ IndexFits index ⌝ }
-    ensures computes { λ r. ⌜ r ≡ readOf (scanned index (now (list .entry))) (now (list .entry)) ⌝ }
-    ensures reads { λ r. ⌜ ReadFor index (now (list .entry)) r ⌝ }
+// Reads a table against a model of that index, and keeps in lent stores what judging needs of it.
+pub fn index_table(index: Index, list: &[u32], nodes: &mut [usize], zones: &mut [i32]) -> TableRead
+    requires { ⌜ IndexFits index × StoresFit (now nodes) (now zones) ⌝ }
+    ensures { λ r. ⌜ ReadFor index (now (list .entry)) r (now (nodes .exit)) (now (zones .exit)) ⌝ }
 {
-    let scanned = scan::scan(index, list);
+    let scanned = scan::scan(index, list, nodes, zones);
     let seen = scanned.seen;
     let fault = scanned.fault;
-    let nodes = scanned.nodes;
-    let zones = scanned.zones;
     let answer = answer_of(fault, scanned.place, list, seen.nodes);
     TableRead {
         answer,
@@ -78,7 +76,5 @@ pub fn index_table(index: Index, list: &[u32]) -> TableRead
         count: seen.nodes,
         start: seen.start,
         place: seen.place,
-        nodes,
-        zones,
     }
 }

@@ -1,12 +1,13 @@
-// One pass over a table's words: the first fault, or the nodes and their zones.
+// One pass over a table's words: the first fault, or in the lent stores the nodes and their zones.
 ghost use mathlib.Core.Path.{_≡_};
 ghost use Rattle.table.specs.Scan.{IndexFits};
-ghost use Rattle.table.specs.Index.{scannedAt, scanned};
+ghost use Rattle.table.specs.Index.{StoresFit, passOf, scanned};
 use crate::nodes::NodeEntry;
 use crate::seen::Fault;
 use crate::seen::Seen;
 use model::index::Index;
 use model::kinds;
+use zone::stores;
 use zone::words;
 use zone::zones::Zone;
 
@@ -15,42 +16,15 @@ pub(crate) struct Scanned {
     pub fault: Fault,
     pub place: usize,
     pub seen: Seen,
-    pub nodes: [NodeEntry; 64],
-    pub zones: [Zone; 64],
 }
 
-impl Scanned {
-    // Where the pass ends.
-    pub(crate) fn at(
-        fault: Fault,
-        place: usize,
-        seen: Seen,
-        nodes: [NodeEntry; 64],
-        zones: [Zone; 64],
-    ) -> Scanned
-        ensures { λ r. ⌜ r ≡ scannedAt fault place seen nodes zones ⌝ }
-    {
-        Scanned {
-            fault,
-            place,
-            seen,
-            nodes,
-            zones,
-        }
-    }
-}
-
-// One pass over the words. The nodes and their zones are written in place, since they are large. The zone of the last node is `current`, and
-// is put at its slot n at the next node and where the pass ends.
-pub(crate) fn scan(index: Index, list: &[u32]) -> Scanned
-    requires { ⌜ IndexFits index ⌝ }
-    ensures { λ r. ⌜ r ≡ scanned index (now (list .entry)) ⌝ }
+// One pass over the words. A node's zone begins as every valuation, each bound is picked in place, and a value completes what is kept of the
+// node. Bounds come first, since most words of a long file are.
+pub(crate) fn scan(index: Index, list: &[u32], nodes: &mut [usize], zones: &mut [i32]) -> Scanned
+    requires { ⌜ IndexFits index × StoresFit (now nodes) (now zones) ⌝ }
+    ensures { λ r. ⌜ passOf r (now (nodes .exit)) (now (zones .exit)) ≡ scanned index (now (list .entry)) (now (nodes .entry)) (now (zones .entry)) ⌝ }
 {
     let mut seen = Seen::NOTHING;
-    let mut nodes = [NodeEntry::NONE; 64];
-    let mut current = Zone::universe();
-    let mut zones = [current; 64];
-    let mut n = 0;
     let follows = kinds::FOLLOWS; // once, not at each word
     for at in 0..list.len() {
         let word = list[at];
@@ -58,36 +32,31 @@ pub(crate) fn scan(index: Index, list: &[u32]) -> Scanned
         let allowed = follows[seen.opener as usize][kind as usize];
         let fault = seen.fault(allowed, index.clocks, index.locations, word);
         let Fault::None = fault else {
-            zones[n] = current;
-            return Scanned::at(fault, at, seen, nodes, zones);
+            return Scanned {
+                fault,
+                place: at,
+                seen,
+            };
         };
+        if kind == kinds::BOUND {
+            stores::add_bound(zones, seen.nodes - 1, word);
+            continue;
+        }
         match kind {
-            kinds::BOUND => {
-                let p = words::cell_of(word);
-                let old = current.cells[p];
-                current.cells[p] = old.tighter_of(words::bound_of(word));
-            }
             kinds::NODE => {
-                zones[n] = current;
-                n = seen.nodes;
-                current = zones[n];
-                seen = seen.with_node(word);
+                Zone::universe().put(zones, seen.nodes);
             }
             kinds::VALUE => {
-                let l = seen.location;
-                nodes[n] = NodeEntry::of(l, word, at);
-                seen = seen.with_value(index.targets[l], index.actions[l], index.actions[l + 1]);
+                NodeEntry::of(seen.location, word, at).put(nodes, seen.nodes - 1);
             }
-            kinds::SUCCESSOR => {
-                let a = seen.action;
-                seen = seen.with_successor(index.edges[a + 1] - index.edges[a]);
-            }
-            _ => {
-                seen = seen.with_word(word, at);
-            }
+            _ => {}
         }
+        seen = seen.with_word(index, word, at);
     }
-    zones[n] = current;
     let fault = seen.last_fault();
-    Scanned::at(fault, list.len(), seen, nodes, zones)
+    Scanned {
+        fault,
+        place: list.len(),
+        seen,
+    }
 }

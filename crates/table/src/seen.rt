@@ -1,14 +1,15 @@
 // What the words of a table read so far come to, and the first check that the next word fails.
 ghost use mathlib.Core.Path.{_≡_};
-ghost use mathlib.Core.Bool.{false, cond};
-ghost use Prim.Native.Nat.{_<_, _≤_};
+ghost use Prim.Native.Nat.{ℕ, _+_, _-_, _<_, _≤_};
 ghost use Rattle.zone.specs.Words.{kind};
-ghost use Rattle.model.specs.TableKinds.{value, successor, isTable};
+ghost use Rattle.model.specs.TableKinds.{nodeBound, tableNumber};
 ghost use Rattle.model.specs.Grammar.{tableFollows?};
-ghost use Rattle.model.specs.declared.index.Index.{Index};
 ghost use Rattle.table.specs.Scan.{rowsAllowAt?, fieldsAt?, limitAt?, faultAt, lastFault};
-ghost use Rattle.table.specs.Scan.{withHead, withNode, withValue, withBlocked, withSuccessor, withStart, seenWith};
+ghost use Rattle.table.specs.Scan.{withHead, withNode, withValue, withRow, withSuccessor, withStart, seenWith};
+ghost use Rattle.table.specs.Scan.{rowsAt, sizeAt, RowFits, IndexFits, WithinLimits};
+ghost use Rattle.table.specs.declared.seen.Fault.the-variants as fault;
 use crate::fields;
+use model::index::Index;
 use model::kinds;
 use zone::words;
 
@@ -17,10 +18,12 @@ pub(crate) struct Seen {
     pub opener: u32, // the kind of the last word that is no bound
     pub whole: u32, // V, of the head
     pub nodes: usize, // how many there are
-    pub location: usize, // of the last node
+    pub location: u32, // of the last node
+    pub target: bool, // behind its value: whether that location is a target
     pub action: usize, // the first action of the last node whose row is not complete
-    pub last: usize, // the end of the actions of the last node that have a row
-    pub begun: usize, // how many successors stand in the row of `action`
+    pub rows: usize, // how many rows of the last node are not complete
+    pub size: usize, // how many successors the first of them has, unless it is blocked; 0 where none is due
+    pub begun: usize, // how many of those stand
     pub start: u32, // the number of the start node
     pub place: usize, // the index of the start node's word
 }
@@ -33,14 +36,38 @@ pub(crate) enum Fault {
     Limit,
 }
 
+// How many rows a node of a location has: one per action, none at a target.
+pub(crate) fn rows_at(index: Index, location: usize) -> usize
+    requires { ⌜ IndexFits index × (location < index .locations) ⌝ }
+    ensures { λ r. ⌜ r ≡ rowsAt index location ⌝ }
+{
+    if index.targets[location] {
+        return 0;
+    }
+    index.actions[location + 1] as usize - index.actions[location] as usize
+}
+
+// How many successors the row of an action has, one per edge; 0 where no row is due.
+pub(crate) fn row_size(index: Index, action: usize, rows: usize) -> usize
+    requires { ⌜ RowFits index action rows ⌝ }
+    ensures { λ r. ⌜ r ≡ sizeAt index action rows ⌝ }
+{
+    if rows == 0 {
+        return 0;
+    }
+    index.edges[action + 1] as usize - index.edges[action] as usize
+}
+
 impl Seen {
     pub(crate) const NOTHING: Seen = Seen {
         opener: kinds::BEFORE_TABLE,
         whole: 0,
         nodes: 0,
         location: 0,
+        target: false,
         action: 0,
-        last: 0,
+        rows: 0,
+        size: 0,
         begun: 0,
         start: 0,
         place: 0,
@@ -52,10 +79,10 @@ impl Seen {
     {
         let kind = words::kind_of(word);
         match kind {
-            kinds::NODE => self.last <= self.action,
-            kinds::BLOCKED => (self.action < self.last) & (self.begun == 0),
-            kinds::SUCCESSOR => self.action < self.last,
-            kinds::START_NODE => self.last <= self.action,
+            kinds::NODE => self.rows == 0,
+            kinds::BLOCKED => (0 < self.rows) & (self.begun == 0),
+            kinds::SUCCESSOR => 0 < self.rows,
+            kinds::START_NODE => self.rows == 0,
             _ => true,
         }
     }
@@ -84,11 +111,29 @@ impl Seen {
         !(words::kind_of(word) == kinds::NODE) | (self.nodes < 64)
     }
 
+    // The first check that a bound word fails: no row asks for it, and it has no limit. Most words of a long file are bounds, so they are asked
+    // no more than that.
+    pub(crate) fn bound_fault(self, allowed: bool, clocks: u32, word: u32) -> Fault
+        requires { ⌜ (kind word ≡ tableNumber nodeBound) × (allowed ≡ tableFollows? (self .opener) (kind word)) ⌝ }
+        ensures { λ r. ⌜ ((locations : ℕ) → r ≡ faultAt self clocks locations word) ⌝ }
+    {
+        if !allowed {
+            return Fault::Kind;
+        }
+        if !words::bound_fields(clocks, word) {
+            return Fault::Field;
+        }
+        Fault::None
+    }
+
     // The first check that a word fails, where the constant table says whether it is allowed behind the opener.
     pub(crate) fn fault(self, allowed: bool, clocks: u32, locations: usize, word: u32) -> Fault
         requires { ⌜ allowed ≡ tableFollows? (self .opener) (kind word) ⌝ }
         ensures { λ r. ⌜ r ≡ faultAt self clocks locations word ⌝ }
     {
+        if words::kind_of(word) == kinds::BOUND {
+            return self.bound_fault(allowed, clocks, word);
+        }
         if !(allowed & self.rows_allow(word)) {
             return Fault::Kind;
         }
@@ -129,47 +174,55 @@ impl Seen {
         let mut next = self;
         next.opener = kinds::NODE;
         next.nodes = self.nodes + 1;
-        next.location = fields::location_of(word) as usize;
+        next.location = fields::location_of(word);
         next
     }
 
-    // With a value word, behind which the rows of the actions from `first` up to `last` are due; at a target there are none.
-    pub(crate) fn with_value(self, target: bool, first: usize, last: usize) -> Seen
-        ensures { λ r. ⌜ r ≡ withValue self (cond target last first) last ⌝ }
+    // With a value word, behind which the rows of the node's location are due.
+    pub(crate) fn with_value(self, index: Index) -> Seen
+        requires { ⌜ IndexFits index × (self .location < index .locations) ⌝ }
+        ensures { λ r. ⌜ r ≡ withValue index self ⌝ }
     {
+        let l = self.location as usize;
+        let first = index.actions[l] as usize;
+        let rows = rows_at(index, l);
         let mut next = self;
         next.opener = kinds::VALUE;
-        next.action = if target { last } else { first };
-        next.last = last;
+        next.target = index.targets[l];
+        next.action = first;
+        next.rows = rows;
+        next.size = row_size(index, first, rows);
         next.begun = 0;
         next
     }
 
-    // With a blocked row.
-    pub(crate) fn with_blocked(self) -> Seen
-        requires { ⌜ self .action ≤ 32 ⌝ }
-        ensures { λ r. ⌜ r ≡ withBlocked self ⌝ }
+    // With the last word of a row, of that kind: the next action's row is due, if any.
+    pub(crate) fn with_row(self, index: Index, kind: u32) -> Seen
+        requires { ⌜ (1 ≤ self .rows) × RowFits index (self .action + 1) (self .rows - 1) ⌝ }
+        ensures { λ r. ⌜ r ≡ withRow index self kind ⌝ }
     {
+        let action = self.action + 1;
+        let rows = self.rows - 1;
         let mut next = self;
-        next.opener = kinds::BLOCKED;
-        next.action = self.action + 1;
+        next.opener = kind;
+        next.action = action;
+        next.rows = rows;
+        next.size = row_size(index, action, rows);
         next.begun = 0;
         next
     }
 
-    // With a successor, in the row of an action that has so many edges.
-    pub(crate) fn with_successor(self, edges: usize) -> Seen
-        requires { ⌜ (self .action ≤ 32) × (self .begun < 128) ⌝ }
-        ensures { λ r. ⌜ r ≡ withSuccessor self edges ⌝ }
+    // With a successor.
+    pub(crate) fn with_successor(self, index: Index) -> Seen
+        requires { ⌜ (1 ≤ self .rows) × RowFits index (self .action + 1) (self .rows - 1) × (self .begun < self .size) × (self .size ≤ 128) ⌝ }
+        ensures { λ r. ⌜ r ≡ withSuccessor index self ⌝ }
     {
+        if self.begun + 1 == self.size {
+            return self.with_row(index, kinds::SUCCESSOR);
+        }
         let mut next = self;
         next.opener = kinds::SUCCESSOR;
-        if self.begun + 1 == edges {
-            next.action = self.action + 1;
-            next.begun = 0;
-        } else {
-            next.begun = self.begun + 1;
-        }
+        next.begun = self.begun + 1;
         next
     }
 
@@ -184,16 +237,18 @@ impl Seen {
         next
     }
 
-    // With a head, node, blocked or start node word, at a place: none of them asks for the model's index. A bound changes nothing here.
-    pub(crate) fn with_word(self, word: u32, place: usize) -> Seen
-        requires { ⌜ (self .nodes ≤ 64) × (self .action ≤ 32) × (isTable value word ≡ false) × (isTable successor word ≡ false) ⌝ }
-        ensures { λ r. ⌜ ((x : Index) → r ≡ seenWith x self word place) ⌝ }
+    // With a word that fails no check, at a place. A bound changes nothing here.
+    pub(crate) fn with_word(self, index: Index, word: u32, place: usize) -> Seen
+        requires { ⌜ IndexFits index × WithinLimits index self × (faultAt self (index .clocks) (index .locations) word ≡ fault.None) ⌝ }
+        ensures { λ r. ⌜ r ≡ seenWith index self word place ⌝ }
     {
         let kind = words::kind_of(word);
         match kind {
             kinds::TABLE_HEAD => self.with_head(word),
             kinds::NODE => self.with_node(word),
-            kinds::BLOCKED => self.with_blocked(),
+            kinds::VALUE => self.with_value(index),
+            kinds::BLOCKED => self.with_row(index, kinds::BLOCKED),
+            kinds::SUCCESSOR => self.with_successor(index),
             kinds::START_NODE => self.with_start(word, place),
             _ => self,
         }

@@ -1,58 +1,29 @@
--- Proof of `successor`: by the definition's tests: of the location, whether the reach is empty, and whether its reset lies inside.
-use mathlib.Core.Path.{_≡_, _∙_}
-use mathlib.Core.Bool.{true}
-use lib.Dec.{eqb}
+-- Proof of `successor`: a weight below 2^16 times a value below 2^32 is below 2^48, so the product does not overflow.
+use Prim.Native.Nat.{_*_, _<_, _^_}
+use mathlib.Core.Path.{_≡_}
+use native.Mathlib.Omega.{arith}
 use borrow.Author.Needs.{needs}
-use borrow.Author.Tests.{eq-eqb, ne-eqb}
-use Rattle.model.specs.Fields.{landsAt}
-use Rattle.judge.specs.Walk.{successorFinding}
+use Rattle.judge.specs.Walk.{successorOutcome}
+use Rattle.judge.proofs.WalkLaws.{product-small}
 use Rattle.judge.proofs.walk.successor.Statement.{statement}
 use Rattle.judge.proofs.walk.successor.Tie as tie
 
+small : (c : tie.After-struct-known) →
+    let node = c .before .before .before .load .result in c .before .weight-of .result * node .value < 2 ^ 48
+small c =
+    let node = c .before .before .before .load .result in
+    product-small (c .before .weight-of .result) (node .value) (2 ^ 16) (2 ^ 32) (c .before .weight-of .ensures .1) (search needs)
+
+mul-t13 : tie.Need-mul-t13
+mul-t13 c = let s = small c in omega arith
+
 returns : tie.Need-returns
-unfolding successorFinding
+unfolding successorOutcome
 returns c =
-    let a = c .before .before .lands-at .ensures in
-    rw (ne-eqb _ _ (λ q. c .if1 .taken (rw (a .0) q)))
-
--- past the first test: the edge's location
-at : (c : tie.Else1) → let args = c .before .before .before .args in eqb (args .node .location) (landsAt (args .edge)) ≡ true
-at c = eq-eqb _ _ (c .if1 .left ∙ c .before .before .lands-at .ensures .0)
-
-returns-2 : tie.Need-returns-2
-unfolding successorFinding
-returns-2 c = rw (at (c .before), c .if2 .taken)
-
-returns-3 : tie.Need-returns-3
-unfolding successorFinding
-returns-3 c =
-    let inside = c .before in
-    let mask = inside .before .before in
-    rw (
-      at (mask .before .before),
-      mask .before .if2 .left,
-      ← mask .mask-of .ensures,
-      ← inside .before .reset .ensures,
-      ← inside .inside .ensures,
-      c .if3 .taken,
-    )
-
-returns-4 : tie.Need-returns-4
-unfolding successorFinding
-returns-4 c =
-    let inside = c .before in
-    let mask = inside .before .before in
-    rw (
-      at (mask .before .before),
-      mask .before .if2 .left,
-      ← mask .mask-of .ensures,
-      ← inside .before .reset .ensures,
-      ← inside .inside .ensures,
-      c .if3 .left,
-    )
+    let load = c .before .before .before in
+    (rw (c .before .weight-of .ensures .0, c .before .before .successor-finding .ensures, load .load .ensures), small c)
 
 pub successor-spec : {M : Type 1} → statement M
 successor-spec =
     tie.close
-    (tie.spec (λ c κs. search needs) (λ c. search needs) returns returns-2 (λ c κs. search needs) (λ c κs. search needs) (λ c κs. search needs)
-    returns-3 returns-4)
+    (tie.spec (λ c κs. search needs) (λ c κs. search needs) (λ c κs. search needs) (λ c. search needs) (λ c. search needs) mul-t13 returns)

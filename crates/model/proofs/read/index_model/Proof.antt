@@ -1,56 +1,58 @@
--- Proof of `index_model`: what the pass leaves is within limits, its zones are small enough to tighten, and it decides the answer.
-use Prim.Native.Nat.{_<_}
-use mathlib.Core.Path.{ap, _∙_}
-use native.Mathlib.Omega.{arith}
+-- Proof of `index_model`: what the pass leaves decides the answer; the start zones of a file without faults can be tightened.
+use mathlib.Core.Path.{_≡_, refl, sym, ap, subst, _∙_}
+use mathlib.Core.List.{[], _∷_}
 use borrow.Author.Needs.{needs}
+use types.Run.{miss}
 use Rattle.zone.specs.Squares.{tightened}
 use Rattle.model.specs.Scan.{WithinLimits}
-use Rattle.model.specs.Index.{startSquare}
+use Rattle.model.specs.Index.{Pass}
+use Rattle.model.specs.declared.seen.Fault.the-variants as fault
 use Rattle.model.proofs.Limits.{limits-scanned}
-use Rattle.model.proofs.ZoneLaws.{ZonesFit, fit-scanned}
-use Rattle.model.proofs.ScanLaws.{start-is, start-tightens}
-use Rattle.model.proofs.Answering.{returned}
+use Rattle.model.proofs.Answering.{start-tightens, fault-returned, whole-returned}
 use Rattle.model.proofs.read.index_model.Statement.{statement}
 use Rattle.model.proofs.read.index_model.Tie as tie
 
 -- what the pass leaves is within the limits
 limits : (c : tie.After-scan) → WithinLimits (c .scan .result .seen)
-limits c = rw (c .scan .ensures) (limits-scanned _)
+limits c = subst WithinLimits (sym (ap (λ (q : Pass). q .seen) (c .scan .ensures))) (limits-scanned _ _ _)
 
-fit : (c : tie.After-scan) → ZonesFit (c .scan .result .zones)
-fit c = rw (c .scan .ensures) (fit-scanned _)
+-- a word has a fault
+faulty : (c : tie.At-match-keys2) → c .before .before .before .before .before .before .scan .result .fault ≡ fault.None → ⊥
+faulty c q = miss (1 ∷ 2 ∷ 3 ∷ 4 ∷ []) 0 tt (rw q at (c .match .keys2))
 
--- the start location is the number of a zone
-start-below : (c : tie.After-scan) → c .scan .result .seen .start < 48
-start-below c = let start = limits c .start in omega arith
+returns : tie.Need-returns
+returns c =
+    let told = c .before .before in
+    let scan = told .before .before .before .before .before .before in
+    let start = scan .before .before .before .before .before in
+    fault-returned _ _ _ (start .pre) _ _ (scan .scan .ensures) refl (faulty told) (c .before .fault-answer .ensures)
 
-array-copy-out-invariant : tie.Need-array-copy-out-invariant
-array-copy-out-invariant c = let start = limits (c .before .before .before .before) .start in omega arith
+load-requires : tie.Need-load-requires
+load-requires c κs = let start = limits (c .before .before .before .before .before .before .before .before .before) .start in search needs
 
 tighten-requires : tie.Need-tighten-requires
 tighten-requires c κs =
-    let scan = c .before .before .before .before .before .before .before in
-    rw (c .meet .ensures) (start-tightens _ _ (fit scan) (start-below scan))
+    let load = c .before .before .before in
+    let told = load .before .before .before in
+    let scan = told .before .before .before .before .before .before .before in
+    let start = scan .before .before .before .before .before in
+    rw (c .meet .ensures)
+    (start-tightens _ _ _ (start .pre) _ (scan .scan .ensures) (told .enum-told .given .1) (load .load .ensures) (c .before .load2 .ensures))
 
-first-missing-requires : tie.Need-first-missing-requires
-first-missing-requires c κs =
-    let good = limits (c .before .before .before .before .before .before .before .before) in
-    let actions = good .actions in
-    let edges = good .edges in
-    omega arith
-
-returns : tie.Need-returns
-unfolding startSquare
-returns c =
-    let initial = c .before .before .before .before in
-    let scan = initial .before .before .before .before .before .before .before .before in
-    let start =
-    initial .tighten .ensures ∙ ap tightened (initial .before .meet .ensures ∙ start-is _ _ (fit scan) (start-below scan)) in
-    returned _ (scan .scan .result) _ _ _ _ _ (scan .scan .ensures) start (c .before .before .before .first-missing .ensures)
-    (c .before .before .is-empty .ensures) (c .before .whole-answer .ensures) (c .answer-of .ensures)
+returns-2 : tie.Need-returns-2
+returns-2 c =
+    let tighten = c .before .before .before in
+    let load = tighten .before .before .before .before in
+    let told = load .before .before .before in
+    let scan = told .before .before .before .before .before .before .before in
+    let start = scan .before .before .before .before .before in
+    whole-returned _ _ _ (start .pre) _ _ (scan .scan .ensures) refl _ _ _ _ (told .enum-told .given .1) (load .load .ensures)
+    (tighten .before .before .load2 .ensures) (tighten .tighten .ensures ∙ ap tightened (tighten .before .meet .ensures))
+    (c .before .before .missing-of .ensures) (c .before .is-empty .ensures) (c .whole-answer .ensures)
 
 pub index-model-spec : {M : Type 1} → statement M
 index-model-spec =
     tie.close
-    (tie.spec (λ c κs. search needs) (λ c. search needs) (λ c. search needs) array-copy-out-invariant (λ c. search needs) (λ c κs. search needs)
-    tighten-requires first-missing-requires (λ c κs. search needs) (λ c κs. search needs) (λ c κs. search needs) returns)
+    (tie.spec (λ c κs. search needs) (λ c. search needs) (λ c κs. search needs) (λ c κs. search needs) (λ c. search needs) (λ c. search needs)
+    returns (λ c. search needs) load-requires (λ c κs. search needs) (λ c κs. search needs) tighten-requires (λ c κs. search needs)
+    (λ c κs. search needs) (λ c κs. search needs) (λ c. search needs) (λ c. search needs) returns-2)

@@ -1,4 +1,4 @@
--- Proof of `Index::closed`: the fields are those of the definition, and at most 16 locations and 32 actions keep both writes in range.
+-- Proof of `Index::closed`: the fields are those of the definition, and at most 16 locations, 32 actions and 128 edges keep both writes in range.
 use mathlib.Core.Path.{refl}
 use borrow.Author.Needs.{needs}
 use Rattle.model.specs.Index.{closed}

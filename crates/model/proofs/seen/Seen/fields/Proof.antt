@@ -27,8 +27,7 @@ unfolding fields?
 returns-4 c = c .edge-fields .ensures ∙ fields-at _ _ edge cc
 
 returns-5 : tie.Need-returns-5
-unfolding fields?
-returns-5 c = rw (c .before .before .bound-fields .ensures, c .one-zero .ensures) (fields-at _ _ bound cc)
+returns-5 c = c .bound-fields .ensures
 
 returns-6 : tie.Need-returns-6
 unfolding fields?
@@ -42,4 +41,4 @@ pub fields-spec : {M : Type 1} → statement M
 fields-spec =
     tie.close
     (tie.spec (λ c κs. search needs) (λ c κs. search needs) (λ c κs. search needs) (λ c κs. search needs) (λ c κs. search needs)
-    (λ c κs. search needs) (λ c κs. search needs) (λ c κs. search needs) returns returns-2 returns-3 returns-4 returns-5 returns-6 returns-7)
+    (λ c κs. search needs) (λ c κs. search needs) returns returns-2 returns-3 returns-4 returns-5 returns-6 returns-7)

@@ -7,4 +7,4 @@ returns : tie.Need-returns
 returns c = rw (c .location-of .ensures .0)
 
 pub with-node-spec : {M : Type 1} → statement M
-with-node-spec = tie.close (tie.spec (λ c. search needs) (λ c κs. search needs) (λ c. search needs) returns)
+with-node-spec = tie.close (tie.spec (λ c. search needs) (λ c κs. search needs) returns)

@@ -1,12 +1,21 @@
--- Proof of `Seen::with_value`: by the test whether the location is a target, which has no rows.
+-- Proof of `Seen::with_value`: the calls give how many rows are due and the size of the first, and the other fields are as in the definition.
+use borrow.Author.Needs.{needs}
+use Rattle.table.specs.Scan.{firstRow}
+use Rattle.table.proofs.Limits.{value-fits}
 use Rattle.table.proofs.seen.Seen.with_value.Statement.{statement}
 use Rattle.table.proofs.seen.Seen.with_value.Tie as tie
 
-returns : tie.Need-returns
-returns c = rw (c .if1 .taken)
+row-size-requires : tie.Need-row-size-requires
+unfolding firstRow
+row-size-requires c κs =
+    let start = c .before .before .before .before in
+    rw (c .before .rows-at .ensures) (value-fits _ (start .pre .0) _ (start .pre .1))
 
-returns-2 : tie.Need-returns-2
-returns-2 c = rw (c .if1 .left)
+returns : tie.Need-returns
+unfolding firstRow
+returns c = rw (c .row-size .ensures, c .before .before .rows-at .ensures)
 
 pub with-value-spec : {M : Type 1} → statement M
-with-value-spec = tie.close (tie.spec returns returns-2)
+with-value-spec =
+    tie.close
+    (tie.spec (λ c. search needs) (λ c. search needs) (λ c. search needs) (λ c κs. search needs) (λ c. search needs) row-size-requires returns)

@@ -1,42 +1,69 @@
--- Proof of `Seen::with_word`: by the word's kind, each call adds what the definition adds; the rest, no value or successor, adds nothing.
+-- Proof of `Seen::with_word`: by the word's kind, each call adds what the definition adds, and a bound adds nothing; the limits that hold while
+-- no check has failed are what the calls ask for.
 use Prim.Native.Nat.{ℕ}
 use mathlib.Core.Path.{_≡_, sym, _∙_}
-use borrow.Author.Tests.{eqb-false}
 use borrow.Author.Needs.{needs}
 use Rattle.zone.specs.Words.{kind}
-use Rattle.model.specs.TableKinds.{tableHead, node, blocked, startNode}
+use Rattle.model.specs.TableKinds.{tableHead, node, value, blocked, successor, startNode}
 use Rattle.table.specs.Scan.{seenWithKind}
+use Rattle.table.proofs.Limits.{value-node, blocked-asks, successor-asks}
 use Rattle.table.proofs.ScanLaws.{seen-step, seen-stays}
 use Rattle.table.proofs.seen.Seen.with_word.Statement.{statement}
 use Rattle.table.proofs.seen.Seen.with_word.Tie as tie
 
+-- the word's kind has the number that the code compares
+named : (c : tie.After-kind-of) (n : ℕ) → c .kind-of .result ≡ n → kind (c .before .args .word) ≡ n
+named c n e = sym (c .kind-of .ensures) ∙ e
+
+with-value-requires : tie.Need-with-value-requires
+with-value-requires c κs =
+    let start = c .before .before in
+    (start .pre .0, value-node _ _ _ (start .pre .0) (start .pre .1) (start .pre .2) (named (c .before) 9 (c .match .keys3)) .1)
+
+with-row-requires : tie.Need-with-row-requires
+with-row-requires c κs =
+    let start = c .before .before in
+    blocked-asks _ _ _ (start .pre .0) (start .pre .1) (start .pre .2) (named (c .before) 10 (c .match .keys4))
+
+with-successor-requires : tie.Need-with-successor-requires
+with-successor-requires c κs =
+    let start = c .before .before in
+    successor-asks _ _ _ (start .pre .0) (start .pre .1) (start .pre .2) (named (c .before) 11 (c .match .keys5))
+
 returns : tie.Need-returns
 unfolding seenWithKind
-returns c x = c .with-head .ensures ∙ seen-step _ _ _ x tableHead (sym (c .before .before .kind-of .ensures) ∙ c .before .match .keys1)
+returns c = c .with-head .ensures ∙ seen-step _ _ _ _ tableHead (named (c .before .before) 7 (c .before .match .keys1))
 
 returns-2 : tie.Need-returns-2
 unfolding seenWithKind
-returns-2 c x = c .with-node .ensures ∙ seen-step _ _ _ x node (sym (c .before .before .kind-of .ensures) ∙ c .before .match .keys2)
+returns-2 c = c .with-node .ensures ∙ seen-step _ _ _ _ node (named (c .before .before) 8 (c .before .match .keys2))
 
 returns-3 : tie.Need-returns-3
 unfolding seenWithKind
-returns-3 c x = c .with-blocked .ensures ∙ seen-step _ _ _ x blocked (sym (c .before .before .kind-of .ensures) ∙ c .before .match .keys3)
+returns-3 c = c .with-value .ensures ∙ seen-step _ _ _ _ value (named (c .before .before) 9 (c .before .match .keys3))
 
 returns-4 : tie.Need-returns-4
 unfolding seenWithKind
-returns-4 c x = c .with-start .ensures ∙ seen-step _ _ _ x startNode (sym (c .before .before .kind-of .ensures) ∙ c .before .match .keys4)
+returns-4 c = c .with-row .ensures ∙ seen-step _ _ _ _ blocked (named (c .before .before) 10 (c .before .match .keys4))
 
 returns-5 : tie.Need-returns-5
-returns-5 c x =
+unfolding seenWithKind
+returns-5 c = c .with-successor .ensures ∙ seen-step _ _ _ _ successor (named (c .before .before) 11 (c .before .match .keys5))
+
+returns-6 : tie.Need-returns-6
+unfolding seenWithKind
+returns-6 c = c .with-start .ensures ∙ seen-step _ _ _ _ startNode (named (c .before .before) 12 (c .before .match .keys6))
+
+returns-7 : tie.Need-returns-7
+returns-7 c =
     let ne : (n : ℕ) → (c .before .kind-of .result ≡ n → ⊥) → kind (c .before .before .args .word) ≡ n → ⊥
     = λ n h q. h (c .before .kind-of .ensures ∙ q) in
     let r = c .match .rest in
-    let asked = c .before .before .pre in
-    seen-stays _ _ _ x (ne 7 (r .0 .0 .0 .1)) (ne 8 (r .0 .0 .1)) (eqb-false _ _ (asked .2)) (ne 10 (r .0 .1)) (eqb-false _ _ (asked .3))
+    seen-stays _ _ _ _ (ne 7 (r .0 .0 .0 .0 .0 .1)) (ne 8 (r .0 .0 .0 .0 .1)) (ne 9 (r .0 .0 .0 .1)) (ne 10 (r .0 .0 .1)) (ne 11 (r .0 .1))
     (ne 12 (r .1))
 
 pub with-word-spec : {M : Type 1} → statement M
 with-word-spec =
     tie.close
-    (tie.spec (λ c κs. search needs) (λ c κs. search needs) (λ c κs. search needs) (λ c κs. search needs) (λ c κs. search needs) returns returns-2
-    returns-3 returns-4 returns-5)
+    (tie.spec (λ c κs. search needs) (λ c κs. search needs) (λ c κs. search needs) with-value-requires with-row-requires
+    with-successor-requires (λ c κs. search needs) returns returns-2 returns-3 returns-4 returns-5 returns-6 returns-7)
