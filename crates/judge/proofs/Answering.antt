@@ -10,7 +10,6 @@ use Rattle.zone.specs.Scale.{within, Inside}
 use Rattle.zone.specs.Checks.{First, accepted, check}
 use Rattle.zone.specs.Squares.{universe, inside?}
 use Rattle.zone.specs.Stores.{zoneAt, HasSlot}
-use Rattle.zone.specs.declared.zones.Zone.{Zone as Square}
 use Rattle.zone.proofs.CheckLaws.{AllHold, all-right, first-holds}
 use Rattle.model.specs.Kinds.{location, start, number}
 use Rattle.model.specs.Before.{countOf, indexOf}

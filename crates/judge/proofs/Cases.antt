@@ -67,11 +67,11 @@ answers :
     (verdictAnswer (computed timeline (boundedTable 0x51001002)) ≡ refused 18 4) ×
     (verdictAnswer (computed timeline (boundedTable 0x51001003)) ≡ accepts)
 unfolding
-    masked? boundOf boundFields? tighter? tighterOf sum negative? listOf withBound passedBelow source beforeBelow all? empty? inside? zoneAt
-    putBelow putAt withWordAt among kindOf tableKindOf follows tableFollows numbered? mayFollow? follows? tableFollows? fields? limit? adds?
-    fieldsAt? limitAt? addsAt? faultAt lastFault seenWithKind seenWith keptWithKind keptWith closed unlessFault scanFrom scanned firstMissing
-    missingOf startSquare wholeAnswer faultAnswer answerOf fields.fields? reading.limit? scan.rowsAllowKind? scan.rowsAllowAt? scan.fieldsAt?
-    scan.limitAt? scan.faultAt scan.lastFault scan.firstRow scan.endRow scan.rowsAt scan.edgesAt scan.sizeAt scan.seenWithKind scan.seenWith entryAt putEntry
+    masked? boundOf boundFields? tighter? tighterOf sum negative? listOf withBound passedBelow source beforeBelow all? empty? inside? zoneAt putBelow
+    putAt withWordAt among kindOf tableKindOf follows tableFollows numbered? mayFollow? follows? tableFollows? fields? limit? adds? fieldsAt? limitAt?
+    addsAt? faultAt lastFault seenWithKind seenWith keptWithKind keptWith closed unlessFault scanFrom scanned firstMissing missingOf startSquare
+    wholeAnswer faultAnswer answerOf fields.fields? reading.limit? scan.rowsAllowKind? scan.rowsAllowAt? scan.fieldsAt? scan.limitAt? scan.faultAt
+    scan.lastFault scan.firstRow scan.endRow scan.rowsAt scan.edgesAt scan.rowSize scan.sizeAt scan.seenWithKind scan.seenWith entryAt putEntry
     index.keptWithKind index.keptWith index.unlessFault index.scanFrom index.scanned index.numbersAnswer index.answerOf withLanding withLandings
     enabledSquare enabledBelow enabledKeys waitedSquare reachSquare successorFinding successorOutcome orElse successorsFrom rowsFrom nodeFinding
     nodesFrom walked startVerdict verdictAnswer behindModel behindWords behindNodes judged judgedBehind judgedFrom computed

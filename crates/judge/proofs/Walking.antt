@@ -1,6 +1,6 @@
 -- The walk decides the checks 15 to 19. Assumes nothing.
 use Prim.Native.Nat.{ℕ, suc, _+_, _-_, _*_, _≤_, _<_}
-use mathlib.Core.Path.{_≡_, refl, sym, ap, ap₂, _∙_}
+use mathlib.Core.Path.{_≡_, refl, sym, ap, ap₂}
 use mathlib.Core.Logic.{inl, inr}
 use mathlib.Core.Bool.{Bool, true, false, cond, _||_}
 use mathlib.Core.List.{List, [], _∷_, _++_}
@@ -27,8 +27,7 @@ use Rattle.model.proofs.GoodModel.{GoodModel}
 use Rattle.model.proofs.WellFormed.{WellFormed}
 use Rattle.model.proofs.IndexLaws.{location-at}
 use Rattle.table.specs.Fields.{numberOf}
-use Rattle.table.specs.Table.{Successor, Row, blockedRow, successorRow, Node, Table, nodeAt, successorsOf, rowsOf, rowActions, tableOf}
-use Rattle.table.specs.Nodes.{entryAt}
+use Rattle.table.specs.Table.{Successor, blockedRow, successorRow, Node, Table, nodeAt, successorsOf, rowsOf, rowActions, tableOf}
 use Rattle.table.specs.Scan.{edgesAt, rowSize}
 use Rattle.table.specs.Index.{Kept}
 use Rattle.table.specs.Indexed.{NodeIs, TableIndexed}

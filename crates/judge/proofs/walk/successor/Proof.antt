@@ -1,6 +1,5 @@
 -- Proof of `successor`: a weight below 2^16 times a value below 2^32 is below 2^48, so the product does not overflow.
 use Prim.Native.Nat.{_*_, _<_, _^_}
-use mathlib.Core.Path.{_≡_}
 use native.Mathlib.Omega.{arith}
 use borrow.Author.Needs.{needs}
 use Rattle.judge.specs.Walk.{successorOutcome}

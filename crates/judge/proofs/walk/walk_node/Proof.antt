@@ -1,6 +1,6 @@
 -- Proof of `walk_node`: before each row and successor nothing was found, and judging the rest gives what the whole node gives.
 use Prim.Native.Nat.{_+_, _*_, _≤_, _<_, _-_, _^_}
-use mathlib.Core.Path.{_≡_, refl, sym, _∙_}
+use mathlib.Core.Path.{refl, sym, _∙_}
 use mathlib.Core.Logic.{⊎-elim}
 use mathlib.Core.List.{[], _∷_}
 use native.Mathlib.Omega.{arith}
