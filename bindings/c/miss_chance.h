@@ -23,7 +23,7 @@
  * need memcpy and memset, which the linker finds as for any C program.
  *
  * STACK. The need is bounded and does not grow with the input: there is no recursion, and every frame has a fixed size. Measured on
- * x86-64: about 114 KiB for miss_chance_judge, 43 KiB for miss_chance_read_model, 2 KiB for the two others. A thread with 256 KiB of stack is
+ * x86-64: about 16 KiB for miss_chance_judge, 7 KiB for miss_chance_read_model, 1 KiB for the two others. A thread with 256 KiB of stack is
  * enough for each of them.
  */
 #ifndef MISS_CHANCE_H
