@@ -15,7 +15,7 @@ use Rattle.model.specs.Index.{Kept as ModelKept, StoresFit as ModelStoresFit}
 use Rattle.table.specs.Fields.{numberOf}
 use Rattle.table.specs.Nodes.{entryAt}
 use Rattle.table.specs.Scan.{edgesAt, rowSize}
-use Rattle.table.specs.Index.{Kept, StoresFit}
+use Rattle.table.specs.Index.{Kept as TableKept, StoresFit as TableStoresFit}
 use Rattle.table.specs.declared.nodes.NodeEntry.{NodeEntry}
 use Rattle.table.specs.declared.read.TableRead.{TableRead}
 use Rattle.judge.specs.Reaching.{EdgesFit, waitedSquare, reachSquare}
@@ -31,7 +31,7 @@ successorFinding reach empty w l z p =
     (finding.WrongLocation p)
 
 -- what it comes to, the node s of those kept in k: the finding, and what its edge adds to the row's sum
-unfoldable pub successorOutcome : Square → Bool → ℕ → Kept → ℕ → ℕ → Outcome
+unfoldable pub successorOutcome : Square → Bool → ℕ → TableKept → ℕ → ℕ → Outcome
 successorOutcome reach empty w k s p =
     let N : NodeEntry = entryAt (k .nodes) s in
     record { finding = successorFinding reach empty w (N .location) (zoneAt (k .zones) s) p; share = weightOf w * N .value }
@@ -46,7 +46,7 @@ orElse (finding.NotInside p) f = finding.NotInside p
 orElse (finding.SumTooLarge p) f = finding.SumTooLarge p
 
 -- the table's words, what is kept of the model, with what each action asks in place of its guard, and what is kept of the table
-module _ (words : List ℕ) (m : ModelKept) (k : Kept) where
+module _ (words : List ℕ) (m : ModelKept) (k : TableKept) where
   -- n successors from the edge e and the place `at` on, with the sum so far; `first` is the place of the row's first word
   unfoldable pub successorsFrom : Square → Bool → ℕ → ℕ → ℕ → ℕ → ℕ → ℕ → Finding
   successorsFrom reach empty limit first zero e at sum = cond (leb sum limit) finding.None (finding.SumTooLarge first)
@@ -106,7 +106,7 @@ module _ (words : List ℕ) (m : ModelKept) (k : Kept) where
 
   pub record StoresAsked : Type 0 where
     pub model : ModelStoresFit (m .edges) (m .zones)
-    pub table : StoresFit (k .nodes) (k .zones)
+    pub table : TableStoresFit (k .nodes) (k .zones)
     pub edges : EdgesFit (m .index)
 
   pub record NodeAsked (n : ℕ) : Type 0 where

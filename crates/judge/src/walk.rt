@@ -1,8 +1,9 @@
 // The walk over nodes, rows and successors, up to the first of the checks 15 to 19 that fails.
 ghost use mathlib.Core.Path.{_≡_};
-ghost use Prim.Native.Nat.{_<_, _^_};
+ghost use Prim.Native.Nat.{_*_, _<_, _^_};
 ghost use Rattle.zone.specs.Stores.{zoneAt, HasSlot};
-ghost use Rattle.model.specs.Index.{keep};
+ghost use Rattle.model.specs.Fields.{weightOf};
+ghost use Rattle.model.specs.Index.{keep as keepModel};
 ghost use Rattle.table.specs.Index.{keep as keepTable};
 ghost use Rattle.table.specs.Nodes.{HasNode};
 ghost use Rattle.judge.specs.Walk.{successorFinding, successorOutcome, nodeFinding, walked, NodeAsked, WalkAsked};
@@ -60,7 +61,14 @@ pub(crate) fn successor_finding(
     Finding::NotInside(place)
 }
 
-// What the successor of an edge comes to, the node s, at a place: the finding, and the edge's weight times the node's value.
+// What an edge adds to its row's sum: its weight times the value of its successor.
+pub(crate) fn share(edge: u32, value: u32) -> u64
+    ensures { λ r. ⌜ (r ≡ weightOf edge * value) × (r < 2 ^ 48) ⌝ }
+{
+    model_fields::weight_of(edge) as u64 * value as u64
+}
+
+// What the successor of an edge comes to, the node s, at a place.
 pub(crate) fn successor(
     reach: Zone,
     empty: bool,
@@ -77,12 +85,12 @@ pub(crate) fn successor(
     let node = NodeEntry::load(nodes, s);
     Outcome {
         finding: successor_finding(reach, empty, edge, node.location, zones, s, place),
-        share: model_fields::weight_of(edge) as u64 * node.value as u64,
+        share: share(edge, node.value),
     }
 }
 
-// Judges one node, row by row and successor by successor. The first check that fails leaves both loops, with its place. The guards of the model
-// are enabled, and V is `whole`.
+// Judges one node, row by row and successor by successor. The first check that fails leaves both loops, with its place. `guards` has the zones
+// of the model, with what each action asks in place of its guard (`enable`); V is `whole`.
 pub(crate) fn walk_node(
     list: &[u32],
     index: Index,
@@ -93,8 +101,8 @@ pub(crate) fn walk_node(
     zones: &[i32],
     n: usize,
 ) -> Finding
-    requires { ⌜ NodeAsked (now list) (keep index (now edges) (now guards)) (keepTable (now nodes) (now zones)) n ⌝ }
-    ensures { λ r. ⌜ r ≡ nodeFinding (now (list .entry)) (keep index (now (edges .entry)) (now (guards .entry))) (keepTable (now (nodes .entry)) (now (zones .entry))) whole n ⌝ }
+    requires { ⌜ NodeAsked (now list) (keepModel index (now edges) (now guards)) (keepTable (now nodes) (now zones)) n ⌝ }
+    ensures { λ r. ⌜ r ≡ nodeFinding (now (list .entry)) (keepModel index (now (edges .entry)) (now (guards .entry))) (keepTable (now (nodes .entry)) (now (zones .entry))) whole n ⌝ }
 {
     let node = NodeEntry::load(nodes, n);
     let l = node.location as usize;
@@ -105,17 +113,18 @@ pub(crate) fn walk_node(
         return Finding::BadTargetValue(node.place);
     }
     let first_action = index.actions[l] as usize;
-    let last_action = index.actions[l + 1] as usize;
-    if first_action == last_action {
+    let end_action = index.actions[l + 1] as usize;
+    if first_action == end_action {
         return Finding::None;
     }
     let waited = reaching::waited(Zone::load(zones, n), Zone::load(guards, l));
     let mut finding = Finding::None;
     let mut at = node.place + 1;
-    'rows: for a in first_action..last_action {
+    'rows: for a in first_action..end_action {
         let reach = reaching::reach_of(waited, Zone::load(guards, GUARDS + a));
         let empty = reach.is_empty();
-        if words::kind_of(list[at]) == kinds::BLOCKED {
+        let blocked = words::kind_of(list[at]) == kinds::BLOCKED;
+        if blocked {
             if !empty {
                 finding = Finding::NotBlocked(at);
                 break 'rows;
@@ -155,8 +164,8 @@ pub(crate) fn walk(
     nodes: &[usize],
     zones: &[i32],
 ) -> Finding
-    requires { ⌜ WalkAsked (now list) (keep index (now edges) (now guards)) (keepTable (now nodes) (now zones)) (table .count) ⌝ }
-    ensures { λ r. ⌜ r ≡ walked (now (list .entry)) (keep index (now (edges .entry)) (now (guards .entry))) (keepTable (now (nodes .entry)) (now (zones .entry))) table ⌝ }
+    requires { ⌜ WalkAsked (now list) (keepModel index (now edges) (now guards)) (keepTable (now nodes) (now zones)) (table .count) ⌝ }
+    ensures { λ r. ⌜ r ≡ walked (now (list .entry)) (keepModel index (now (edges .entry)) (now (guards .entry))) (keepTable (now (nodes .entry)) (now (zones .entry))) table ⌝ }
 {
     for n in 0..table.count {
         let finding = walk_node(list, index, edges, guards, table.whole, nodes, zones, n);

@@ -4,6 +4,7 @@ use mathlib.Core.Path.{refl, sym, _∙_}
 use mathlib.Core.Logic.{⊎-elim}
 use mathlib.Core.List.{[], _∷_}
 use native.Mathlib.Omega.{arith}
+use borrow.Author.Tests.{eqb-true, eqb-false}
 use borrow.Author.Needs.{needs}
 use types.Run.{miss}
 use lib.ListN.{length}
@@ -18,22 +19,22 @@ use Rattle.judge.proofs.walk.walk_node.Statement.{statement}
 use Rattle.judge.proofs.walk.walk_node.Tie as tie
 
 abbrev Inv-loop : tie.InvT-loop
-Inv-loop list edges guards whole nodes zones n index node l first-action last waited f₀ at₀ a reach empty limit first sum₀ e₀ end f at sum e =
+Inv-loop list edges guards whole nodes zones n index node l first-action stop waited f₀ at₀ a reach empty blocked limit first sum₀ e₀ end f at sum e =
     let m : ModelKept = keep index edges guards in
     let k : Kept = keepTable nodes zones in
-    AtSuccessor list m k (nodeFinding list m k whole n) waited (node .value) last a reach empty limit first end f at sum e
+    AtSuccessor list m k (nodeFinding list m k whole n) waited (node .value) stop a reach empty limit first end f at sum e
 
 abbrev μ-loop : tie.MeasureT-loop
-μ-loop list edges guards whole nodes zones n index node l first-action last waited f₀ at₀ a reach empty limit first sum₀ e₀ end f at sum e = end - e
+μ-loop list edges guards whole nodes zones n index node l first-action stop waited f₀ at₀ a reach empty blocked limit first sum₀ e₀ end f at sum e = end - e
 
 abbrev Inv-rows : tie.InvT-rows
-Inv-rows list edges guards whole nodes zones n index node l first-action last waited f₀ at₀ a₀ f at a =
+Inv-rows list edges guards whole nodes zones n index node l first-action stop waited f₀ at₀ a₀ f at a =
     let m : ModelKept = keep index edges guards in
     let k : Kept = keepTable nodes zones in
-    AtRow list m k (nodeFinding list m k whole n) waited (node .value) last f at a
+    AtRow list m k (nodeFinding list m k whole n) waited (node .value) stop f at a
 
 abbrev μ-rows : tie.MeasureT-rows
-μ-rows list edges guards whole nodes zones n index node l first-action last waited f₀ at₀ a₀ f at a = last - a
+μ-rows list edges guards whole nodes zones n index node l first-action stop waited f₀ at₀ a₀ f at a = stop - a
 
 -- ---- the node, where its location is no target, and the turns of the loops: at a row, at a successor
 abbrev Start : Type 0
@@ -116,11 +117,11 @@ returns-2 c =
 element-copy-out-first-action : tie.Need-element-copy-out-first-action Inv-loop μ-loop Inv-rows μ-rows
 element-copy-out-first-action c = let l = located (loaded c) in omega arith
 
-add-last-action : tie.Need-add-last-action Inv-loop μ-loop Inv-rows μ-rows
-add-last-action c = let l = located (loaded (c .before)) in omega arith
+add-end-action : tie.Need-add-end-action Inv-loop μ-loop Inv-rows μ-rows
+add-end-action c = let l = located (loaded (c .before)) in omega arith
 
-element-copy-out-last-action : tie.Need-element-copy-out-last-action Inv-loop μ-loop Inv-rows μ-rows
-element-copy-out-last-action c = let l = located (loaded (c .before)) in omega arith
+element-copy-out-end-action : tie.Need-element-copy-out-end-action Inv-loop μ-loop Inv-rows μ-rows
+element-copy-out-end-action c = let l = located (loaded (c .before)) in omega arith
 
 returns-3 : tie.Need-returns-3 Inv-loop μ-loop Inv-rows μ-rows
 returns-3 c =
@@ -232,7 +233,7 @@ loop-holds c =
     let w = c .before .before .before .before in
     let k = w .before .before .before .before .before in
     row-successors _ _ _ (k .before .rows .inv) (k .rows-test .taken) (reach-is w)
-    (λ q. c .before .before .before .if4 .left (w .kind-of .ensures ∙ q)) (start (loaded (other k)) .pre .stores .edges) refl
+    (λ q. eqb-false _ _ (c .before .before .before .if4 .left) (w .kind-of .ensures ∙ q)) (start (loaded (other k)) .pre .stores .edges) refl
 
 mul-number-of : tie.Need-mul-number-of Inv-loop μ-loop Inv-rows μ-rows
 mul-number-of c =
@@ -301,7 +302,7 @@ rows-again c =
     let k = w .before .before .before .before .before in
     let i = k .before .rows .inv in
     ⊎-elim
-    (λ y. row-blocked _ _ _ i (k .rows-test .taken) (reach-is w) (y .2) (y .3) (sym (w .kind-of .ensures) ∙ y .0 .taken) (y .1 .left))
+    (λ y. row-blocked _ _ _ i (k .rows-test .taken) (reach-is w) (y .2) (y .3) (sym (w .kind-of .ensures) ∙ eqb-true _ _ (y .0 .taken)) (y .1 .left))
     (λ y. row-end _ _ _ (y .4 .inv) (y .5 .left) (y .7) (y .8) (y .6 .left) (i .tightens) (i .limit))
     (c .if4 .came)
 
@@ -312,7 +313,7 @@ returns-5 : tie.Need-returns-5 Inv-loop μ-loop Inv-rows μ-rows
 returns-5 c =
     let w = c .before .before in
     let k = w .before .before .before .before .before in
-    row-not-blocked _ _ _ (k .before .rows .inv) (k .rows-test .taken) (reach-is w) (sym (w .kind-of .ensures) ∙ c .before .if4 .taken)
+    row-not-blocked _ _ _ (k .before .rows .inv) (k .rows-test .taken) (reach-is w) (sym (w .kind-of .ensures) ∙ eqb-true _ _ (c .before .if4 .taken))
     (c .if5 .taken)
 
 -- the successor has a finding
@@ -330,7 +331,7 @@ pub walk-node-spec : {M : Type 1} → statement M
 walk-node-spec =
     tie.close
     (tie.spec Inv-loop μ-loop Inv-rows μ-rows load-requires (λ c. search needs) element-copy-out-if1 returns returns-2
-    element-copy-out-first-action (λ c. search needs) add-last-action element-copy-out-last-action (λ c. search needs) returns-3 load-requires-2
+    element-copy-out-first-action (λ c. search needs) add-end-action element-copy-out-end-action (λ c. search needs) returns-3 load-requires-2
     load-requires-3 waited-requires add-at rows-holds (λ c. search needs) load-requires-4 reach-of-requires (λ c κs. search needs) mul-kind-of
     shared-slice-read-kind-of (λ c κs. search needs) add-at-2 cast-limit (λ c. search needs) mul-limit element-copy-out-e
     cast-e add-e-end element-copy-out-e-end cast-e-end loop-holds mul-number-of shared-slice-read-number-of
