@@ -1,9 +1,9 @@
 -- Demand 3: what an accepted table certifies bounds every scheduler. From acceptance alone, by induction on the number of steps, for every node
 -- that holds the present state. Assumes nothing.
-use Prim.Native.Nat.{ℕ, zero, suc, _+_, _*_, _^_, _≤_, _<_, zero-le}
+use Prim.Native.Nat.{ℕ, zero, suc, _*_, _^_, _≤_, _<_, zero-le}
 use mathlib.Core.Path.{_≡_, refl, sym, subst, _∙_}
 use mathlib.Core.Bool.{true, false, _&&_}
-use mathlib.Core.List.{List, [], _∷_, _++_}
+use mathlib.Core.List.{List, [], _∷_}
 use mathlib.Core.Option.{some}
 use native.Mathlib.Nat.{mul-le-mul-left, mul-le-mul-right, add-mul, zero-mul, add-le-add, le-trans, le-refl, le-of-eq, pow-succ', mul-comm, mul-assoc}
 use lib.Dec.{T}

@@ -42,9 +42,9 @@ module _ (M : Model) (k : ℕ) where
   unfoldable pub missed? : State → Bool
   missed? s = locationAt M (s .location) .target
 
-  -- the weighted count for n steps, for the list of states that has the present state s last, behind those in `before`: the base to the power n if
-  -- s counts as a miss; else 0 if n is 0 or the scheduler stops; else the sum over the edges of the chosen action, each with the list that has the
-  -- state landed in added at its end
+  -- the weighted count for n steps, for the list of states that has the present state s last, behind those in `before`: D to the power n if s is at
+  -- a target; else 0 if n is 0 or the scheduler stops; else the sum over the edges of the chosen action, each with the list that has the state
+  -- landed in added at its end
   unfoldable pub weightedCount : Scheduler → ℕ → List State → State → ℕ
   weightedCount σ zero before s = cond (missed? s) (perStep M ^ zero) 0
   weightedCount σ (suc n) before s =

@@ -199,10 +199,10 @@ module _ (words : List ℕ) (r : ModelRead) (es : List ℕ) (zs : List ℤ) (m :
           omega (arith, there, few, indexed .count, indexed .start)
 
       pub start-node : StoresFit ns ys → HasNode (t .start) ns
-      start-node rooms = let l = start-limit in record { number = l; room = omega (arith, l, rooms .nodes) }
+      start-node rooms = let l = start-limit in record { room = omega (arith, l, rooms .nodes) }
 
       pub start-slot : StoresFit ns ys → HasSlot (t .start) ys
-      start-slot rooms = let l = start-limit in record { number = l; room = omega (arith, l, rooms .zones) }
+      start-slot rooms = let l = start-limit in record { room = omega (arith, l, rooms .zones) }
 
       -- 20 and 21, and the acceptance
       pub start-judged : walks ≡ finding.None → Judged words list (verdictAnswer (startAt r t k))

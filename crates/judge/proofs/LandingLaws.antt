@@ -14,7 +14,7 @@ use Rattle.zone.specs.declared.zones.Zone.{Zone as Square}
 use Rattle.zone.proofs.Loops.{listOf-length}
 use Rattle.zone.proofs.StoreLaws.{zone-length, put-length, put-here, put-apart}
 use Rattle.model.specs.Fields.{maskOf, landsAt}
-use Rattle.model.specs.Scan.{guardsAt}
+use Rattle.model.specs.Scan.{guardsAt, zoneCount}
 use Rattle.model.specs.Index.{Kept}
 use Rattle.judge.specs.Reaching.{withLanding, withLandings, enabledSquare, actionCount, enabledBelow, enabledKeys}
 
@@ -112,7 +112,7 @@ module _ (k : Kept) where
   unfolding enabledKeys
   enabled-invariant l h = invariant-below (actionCount (k .index)) l h
 
-  pub enabled-at : actionCount (k .index) ≤ 32 → 49 * 25 ≤ length (k .zones) → (a : ℕ) → a < actionCount (k .index) →
+  pub enabled-at : actionCount (k .index) ≤ 32 → zoneCount * 25 ≤ length (k .zones) → (a : ℕ) → a < actionCount (k .index) →
       zoneAt (enabledKeys k) (guardsAt + a) ≡ enabledSquare k a
   unfolding enabledKeys
   enabled-at few room a l = below-at (actionCount (k .index)) a l (omega arith)

@@ -12,6 +12,7 @@ use Rattle.model.specs.TableKinds.{blocked, isTable}
 use Rattle.model.specs.Model.{Action, Location, Model}
 use Rattle.model.specs.States.{locationAt}
 use Rattle.model.specs.Index.{Kept as ModelKept, StoresFit as ModelStoresFit}
+use Rattle.model.specs.Scan.{guardsAt}
 use Rattle.model.specs.Indexed.{Each, LocationAt, Indexed}
 use Rattle.zone.proofs.Sizes.{tightens-fewer}
 use Rattle.model.proofs.ZoneLaws.{tightens-bounds}
@@ -50,7 +51,7 @@ module _ (M : Model) (words : List ℕ) (m : ModelKept) (k : Kept) (x : Indexed 
   abbrev e : ModelKept
   e = enabledKept m
 
-  enabled-in-range : (a : ℕ) (A : Action) → ActionIs M m a A → Tightens 1 (zoneAt (e .zones) (16 + a))
+  enabled-in-range : (a : ℕ) (A : Action) → ActionIs M m a A → Tightens 1 (zoneAt (e .zones) (guardsAt + a))
   enabled-in-range a A y =
       rw (enabled-at m (actions-fit M m x good formed .actions) (room .zones) a (y .there))
       (tightens-fewer 1 3 _ (omega arith) (enabled-tightens x good (y .at) (y .good) (y .formed .edges)))

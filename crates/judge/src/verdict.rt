@@ -10,12 +10,10 @@ use crate::walk;
 use crate::walk::Finding;
 use acceptance::certificate::Certificate;
 use model::places;
-use model::places::EDGES;
 use model::read as models;
 use model::read::ModelAnswer;
 use table::nodes::NodeEntry;
 use table::read as tables;
-use table::read::NODE_NUMBERS;
 use table::read::TableAnswer;
 use zone::zones::Zone;
 
@@ -109,7 +107,7 @@ pub fn judge(model: &[u32], table: &[u32]) -> Verdict
     ensures exactly { λ r. ⌜ Exactly (now (model .entry)) (now (table .entry)) (verdictAnswer r) ⌝ }
     ensures bounds { λ r. ⌜ BoundsSchedulers (now (model .entry)) (verdictAnswer r) ⌝ }
 {
-    let mut edges = [0u32; EDGES];
+    let mut edges = [0u32; places::EDGES];
     let mut guards = [0i32; places::ZONE_KEYS];
     let model_read = models::index_model(model, &mut edges, &mut guards);
     let model_answer = model_read.answer;
@@ -117,7 +115,7 @@ pub fn judge(model: &[u32], table: &[u32]) -> Verdict
         return model_refused(model_answer);
     };
     let index = model_read.index;
-    let mut nodes = [0usize; NODE_NUMBERS];
+    let mut nodes = [0usize; tables::NODE_NUMBERS];
     let mut zones = [0i32; tables::ZONE_KEYS];
     let table_read = tables::index_table(index, table, &mut nodes, &mut zones);
     let table_answer = table_read.answer;

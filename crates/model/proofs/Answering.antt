@@ -7,7 +7,7 @@ use mathlib.Core.List.{List, [], _∷_, _++_}
 use native.Mathlib.Nat.{zero-add}
 use native.Mathlib.Omega.{arith}
 use lib.IntN.{ℤ}
-use lib.ListN.{length, take}
+use lib.ListN.{length}
 use Rattle.zone.specs.Checks.{Check, check, First}
 use Rattle.zone.specs.Squares.{universe, met, tightened, empty?, Tightens}
 use Rattle.zone.specs.Stores.{zoneAt}
@@ -25,14 +25,14 @@ use Rattle.model.specs.declared.seen.Seen.{Seen}
 use Rattle.model.specs.declared.seen.Fault.{Fault}
 use Rattle.model.specs.declared.seen.Fault.the-variants as fault
 use Rattle.model.specs.declared.index.Index.{Index}
-use Rattle.model.specs.declared.index.Missing.{Missing}
-use Rattle.model.specs.declared.index.Missing.the-variants as missing
+use Rattle.model.specs.declared.read.Missing.{Missing}
+use Rattle.model.specs.declared.read.Missing.the-variants as missing
 use Rattle.model.specs.declared.read.Counts.{Counts}
 use Rattle.model.specs.declared.read.ModelAnswer.{ModelAnswer}
 use Rattle.model.specs.declared.read.ModelAnswer.the-variants as answer
 use Rattle.model.specs.declared.read.ModelRead.{ModelRead}
 use Rattle.model.proofs.Run.{Run, seenEnd, keptEnd, run-of, end-of}
-use Rattle.model.proofs.Edges.{edges-first, missing-is, edge-words}
+use Rattle.model.proofs.Edges.{edges-first, missing-is}
 use Rattle.model.proofs.Entries.{numbers-end}
 use Rattle.model.proofs.Checking.{answerOf, words-first}
 use Rattle.model.proofs.Counts.{counts-end, place-end, start-below}
@@ -133,12 +133,10 @@ module _ (words es : List ℕ) (zs : List ℤ) (fit : StoresFit es zs) where
     kept-for : (r : ModelRead) → r .index ≡ kept .index → r .initial ≡ startSquare (seen .start) (kept .zones) →
         KeptFor words r (kept .edges) (kept .zones)
     kept-for r same initial =
-        let edges = ap (λ (c : Counts). c .edges) (counts-end words run) in
         record {
           indexed = rw same x;
           initial = initial ∙ ap (λ (l : ℕ). startSquare l (kept .zones))
               (sym (numbers-end nothing (keep emptyIndex es zs) 0 words .start) ∙ ap (λ (i : Index). i .start) (sym same));
-          edges = ap (λ (n : ℕ). take n (kept .edges)) (sym edges) ∙ edge-words words es zs fit run;
         }
 
   -- ---- every pass
@@ -173,17 +171,22 @@ module _ (words es : List ℕ) (zs : List ℤ) (fit : StoresFit es zs) where
           (whole-first words seen (missingOf seen words) _ (missing-is words) (place-end words run) (counts-end words run)
           (present run) (absent run))
 
-  -- both promises of the call, from what the pass leaves
+  -- the promises of the call, from what the pass leaves
   module _ (q : Pass) (r : ModelRead) (same : q ≡ pass) (index : r .index ≡ q .kept .index) where
     abbrev Promises : Type 0
-    Promises = ReadModel words (modelAnswer (r .answer)) × IndexedWhere words r (q .kept .edges) (q .kept .zones)
+    Promises =
+        ReadModel words (modelAnswer (r .answer))
+        × (IndexedWhere words r (q .kept .edges) (q .kept .zones) × (keep (r .index) (q .kept .edges) (q .kept .zones) ≡ pass .kept))
 
     returned :
         r .answer ≡ answerOf (q .fault) (q .place) (wholeOf words q) →
         (q .fault ≡ fault.None → r .initial ≡ startSquare (q .seen .start) (q .kept .zones)) → Promises
     returned answer initial = (
       rw (answer, same) answered,
-      record { accepted = λ counts h. accepted (accepted-only (q .fault) (q .place) (wholeOf words q) counts (sym answer ∙ h)) },
+      (
+        record { accepted = λ counts h. accepted (accepted-only (q .fault) (q .place) (wholeOf words q) counts (sym answer ∙ h)) },
+        rw (index, same),
+      ),
     )
       where
         accepted : q .fault ≡ fault.None → KeptFor words r (q .kept .edges) (q .kept .zones)
@@ -217,4 +220,4 @@ module _ (words es : List ℕ) (zs : List ℤ) (fit : StoresFit es zs) where
 
   -- the promise of what is kept, for what the call returns as the definitions compute it
   pub index-of : IndexedWhere words (readOf words pass) (pass .kept .edges) (pass .kept .zones)
-  index-of = returned pass (readOf words pass) refl refl refl (λ none. refl) .1
+  index-of = returned pass (readOf words pass) refl refl refl (λ none. refl) .1 .0

@@ -24,7 +24,7 @@ use Rattle.model.specs.declared.seen.Seen.{Seen}
 use Rattle.model.specs.declared.seen.Fault.{Fault}
 use Rattle.model.specs.declared.seen.Fault.the-variants as fault
 use Rattle.model.specs.declared.index.Index.{Index}
-use Rattle.model.specs.declared.index.Missing.the-variants as missing
+use Rattle.model.specs.declared.read.Missing.the-variants as missing
 use Rattle.model.proofs.KindLaws.{kind-is, by-kind}
 use Rattle.model.proofs.Limits.{limits-with}
 use Rattle.model.proofs.Entries.{SameLengths, lengths-with}

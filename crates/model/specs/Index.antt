@@ -15,12 +15,12 @@ use Rattle.model.specs.declared.seen.Seen.{Seen}
 use Rattle.model.specs.declared.seen.Fault.{Fault}
 use Rattle.model.specs.declared.seen.Fault.the-variants as fault
 use Rattle.model.specs.declared.index.Index.{Index}
-use Rattle.model.specs.declared.index.Missing.{Missing}
-use Rattle.model.specs.declared.index.Missing.the-variants as missing
 use Rattle.model.specs.declared.scan.Scanned.{Scanned}
 use Rattle.model.specs.declared.read.Counts.{Counts}
 use Rattle.model.specs.declared.read.ModelAnswer.{ModelAnswer}
 use Rattle.model.specs.declared.read.ModelAnswer.the-variants as answer
+use Rattle.model.specs.declared.read.Missing.{Missing}
+use Rattle.model.specs.declared.read.Missing.the-variants as missing
 
 -- ---- the parts, as they are read
 
@@ -49,6 +49,14 @@ withParts x targets actions edges =
       edges = edges;
     }
 
+-- with a location more, of the word w, behind words that come to s
+abbrev pub indexWithLocation : Seen → ℕ → Index → Index
+indexWithLocation s w x = withParts x (set (x .targets) (s .locations) (target? w)) (set (x .actions) (s .locations) (s .actions)) (x .edges)
+
+-- with an action more
+abbrev pub indexWithAction : Seen → Index → Index
+indexWithAction s x = withParts x (x .targets) (x .actions) (set (x .edges) (s .actions) (s .edges))
+
 -- what is kept of a model: its index and, in the lent stores, its edge words and the keys of its zones
 pub record Kept : Type 0 where
   pub index : Index
@@ -68,15 +76,8 @@ pub record StoresFit (es : List ℕ) (zs : List ℤ) : Type 0 where
 unfoldable pub keptWithKind : Kind → Seen → ℕ → Kept → Kept
 keptWithKind none s w k = k
 keptWithKind head s w k = k
-keptWithKind location s w k =
-    keep
-    (withParts (k .index) (set (k .index .targets) (s .locations) (target? w)) (set (k .index .actions) (s .locations) (s .actions))
-    (k .index .edges))
-    (k .edges)
-    (putAt universe (s .locations) (k .zones))
-keptWithKind action s w k =
-    keep (withParts (k .index) (k .index .targets) (k .index .actions) (set (k .index .edges) (s .actions) (s .edges))) (k .edges)
-    (putAt universe (guardsAt + s .actions) (k .zones))
+keptWithKind location s w k = keep (indexWithLocation s w (k .index)) (k .edges) (putAt universe (s .locations) (k .zones))
+keptWithKind action s w k = keep (indexWithAction s (k .index)) (k .edges) (putAt universe (guardsAt + s .actions) (k .zones))
 keptWithKind edge s w k = keep (k .index) (set (k .edges) (s .edges) w) (k .zones)
 keptWithKind bound s w k = keep (k .index) (k .edges) (withWordAt w (s .slot) (k .zones))
 keptWithKind start s w k = keep (k .index) (k .edges) (putAt universe startBoundsAt (k .zones))
@@ -108,6 +109,9 @@ pub record Pass : Type 0 where
 
 abbrev pub passAt : Fault → ℕ → Seen → Kept → Pass
 passAt f p s k = record { fault = f; place = p; seen = s; kept = k }
+
+abbrev pub scannedAt : Fault → ℕ → Seen → Index → Scanned
+scannedAt f p s x = record { fault = f; place = p; seen = s; index = x }
 
 -- what the code returns, with what it leaves in the stores
 abbrev pub passOf : Scanned → List ℕ → List ℤ → Pass

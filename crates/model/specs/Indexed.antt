@@ -1,17 +1,15 @@
 -- What is kept of an accepted model, and the model that the words hold: the promise that judging rests on. Assumes nothing.
 use Prim.Native.Nat.{ℕ, suc, _+_, _≤_}
 use mathlib.Core.Path.{_≡_}
-use mathlib.Core.Bool.{false, cond}
+use mathlib.Core.Bool.{false}
 use mathlib.Core.List.{List, [], _∷_}
 use lib.IntN.{ℤ}
-use lib.ListN.{getD, length, take}
+use lib.ListN.{getD, length}
 use Rattle.zone.specs.Scale.{Zone}
 use Rattle.zone.specs.Squares.{universe, withBound}
 use Rattle.zone.specs.Reading.{cellOf}
 use Rattle.zone.specs.Stores.{zoneAt}
 use Rattle.zone.specs.declared.zones.Zone.{Zone as Square}
-use Rattle.model.specs.Kinds.{edge, number, is}
-use Rattle.model.specs.Before.{countOf}
 use Rattle.model.specs.Model.{Edge, Action, Location, Model, edgeOf, modelOf}
 use Rattle.model.specs.Scan.{guardsAt, startBoundsAt}
 use Rattle.model.specs.Index.{Kept, keep, startSquare}
@@ -56,16 +54,10 @@ pub record Indexed (M : Model) (k : Kept) : Type 0 where
   -- every number in the index's edges is a place in the store of edge words or the end of them
   pub edgeLimits : (a : ℕ) → getD (k .index .edges) a 0 ≤ 128
 
--- the edge words
-unfoldable pub edgeWords : List ℕ → List ℕ
-edgeWords [] = []
-edgeWords (w ∷ ws) = cond (is edge w) (w ∷ edgeWords ws) (edgeWords ws)
-
 -- an accepted model is kept: its index is the call's, its edge words and zones stand in the stores es and zs
 pub record KeptFor (words : List ℕ) (r : ModelRead) (es : List ℕ) (zs : List ℤ) : Type 0 where
   pub indexed : Indexed (modelOf words) (keep (r .index) es zs)
   pub initial : r .initial ≡ startSquare (r .index .start) zs
-  pub edges : take (countOf (number edge) words) es ≡ edgeWords words
 
 pub record IndexedWhere (words : List ℕ) (r : ModelRead) (es : List ℕ) (zs : List ℤ) : Type 0 where
   pub accepted : (counts : Counts) → r .answer ≡ answer.Accepted counts → KeptFor words r es zs

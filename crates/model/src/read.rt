@@ -1,17 +1,18 @@
 // The call that reads a model, with refusals 1 to 6, and what judging needs of an accepted one.
 ghost use mathlib.Core.Path.{_≡_};
 ghost use Rattle.model.specs.Reading.{ReadModel, modelAnswer};
-ghost use Rattle.model.specs.Index.{StoresFit, faultAnswer, missingOf, wholeAnswer};
+ghost use Rattle.model.specs.Index.{StoresFit, keep, scanned, faultAnswer, firstMissing, missingOf, wholeAnswer};
 ghost use Rattle.model.specs.Indexed.{IndexedWhere};
-use crate::index;
+use crate::fields;
 use crate::index::Index;
-use crate::index::Missing;
+use crate::kinds;
 use crate::places::EDGES;
 use crate::places::START_BOUNDS;
 use crate::places::ZONE_KEYS;
 use crate::scan;
 use crate::seen::Fault;
 use crate::seen::Seen;
+use zone::words;
 use zone::zones::Zone;
 
 // How many locations, actions and edges a model has.
@@ -30,6 +31,12 @@ pub enum ModelAnswer {
     BadWeights(usize),
     NoLocation(usize),
     NoStart(usize),
+}
+
+// The place of the first edge word whose location does not exist.
+pub(crate) enum Missing {
+    At(usize),
+    None,
 }
 
 // The answer, and beside it what judging needs of an accepted model: its index, and the zone of its start valuations, tightened. Its edge words
@@ -53,6 +60,20 @@ pub(crate) fn fault_answer(fault: Fault, place: usize) -> ModelAnswer
     }
 }
 
+// The first edge word whose location is not one of so many.
+pub(crate) fn first_missing(list: &[u32], locations: usize) -> Missing
+    ensures { λ r. ⌜ r ≡ firstMissing locations 0 (now (list .entry)) ⌝ }
+{
+    for at in 0..list.len() {
+        let word = list[at];
+        let missing = locations <= fields::lands_at(word) as usize;
+        if (words::kind_of(word) == kinds::EDGE) & missing {
+            return Missing::At(at);
+        }
+    }
+    Missing::None
+}
+
 // The first edge word whose location does not exist. The words are searched only where there is one.
 pub(crate) fn missing_of(list: &[u32], seen: Seen) -> Missing
     ensures { λ r. ⌜ r ≡ missingOf seen (now (list .entry)) ⌝ }
@@ -60,7 +81,7 @@ pub(crate) fn missing_of(list: &[u32], seen: Seen) -> Missing
     if (seen.furthest as usize) < seen.locations {
         return Missing::None;
     }
-    index::first_missing(list, seen.locations)
+    first_missing(list, seen.locations)
 }
 
 // The answer of a file whose words are good: 5 and 6.
@@ -80,11 +101,12 @@ pub(crate) fn whole_answer(missing: Missing, empty: bool, seen: Seen) -> ModelAn
     })
 }
 
-// Reads a model into lent stores, and works out once what judging needs of it.
+// Reads a model into lent stores, and works out once what judging needs of it. Whatever the words, it leaves what the pass leaves.
 pub fn index_model(list: &[u32], edges: &mut [u32], zones: &mut [i32]) -> ModelRead
     requires { ⌜ StoresFit (now edges) (now zones) ⌝ }
     ensures answers { λ r. ⌜ ReadModel (now (list .entry)) (modelAnswer (r .answer)) ⌝ }
     ensures indexed { λ r. ⌜ IndexedWhere (now (list .entry)) r (now (edges .exit)) (now (zones .exit)) ⌝ }
+    ensures leaves { λ r. ⌜ keep (r .index) (now (edges .exit)) (now (zones .exit)) ≡ scanned (now (list .entry)) (now (edges .entry)) (now (zones .entry)) .kept ⌝ }
 {
     let scanned = scan::scan(list, edges, zones);
     let seen = scanned.seen;

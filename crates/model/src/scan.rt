@@ -1,7 +1,6 @@
 // One pass over a model's words: the first fault, or the index of the whole file and, in the lent stores, its edge words and zones.
 ghost use mathlib.Core.Path.{_≡_};
-ghost use Rattle.model.specs.Index.{StoresFit, passOf, scanned};
-use crate::fields;
+ghost use Rattle.model.specs.Index.{StoresFit, passOf, scanned, scannedAt};
 use crate::index::Index;
 use crate::kinds;
 use crate::places::GUARDS;
@@ -20,7 +19,21 @@ pub(crate) struct Scanned {
     pub index: Index,
 }
 
-// One pass over the words. The index is written in place; an opener's zone begins as every valuation, and each bound is picked in place.
+impl Scanned {
+    // Of these parts.
+    pub(crate) fn at(fault: Fault, place: usize, seen: Seen, index: Index) -> Scanned
+        ensures { λ r. ⌜ r ≡ scannedAt fault place seen index ⌝ }
+    {
+        Scanned {
+            fault,
+            place,
+            seen,
+            index,
+        }
+    }
+}
+
+// One pass over the words. An opener's zone begins as every valuation, and each bound is picked in place.
 pub(crate) fn scan(list: &[u32], edges: &mut [u32], zones: &mut [i32]) -> Scanned
     requires { ⌜ StoresFit (now edges) (now zones) ⌝ }
     ensures { λ r. ⌜ passOf r (now (edges .exit)) (now (zones .exit)) ≡ scanned (now (list .entry)) (now (edges .entry)) (now (zones .entry)) ⌝ }
@@ -34,12 +47,7 @@ pub(crate) fn scan(list: &[u32], edges: &mut [u32], zones: &mut [i32]) -> Scanne
         let allowed = follows[seen.opener as usize][kind as usize];
         let fault = seen.fault(allowed, word);
         let Fault::None = fault else {
-            return Scanned {
-                fault,
-                place: at,
-                seen,
-                index,
-            };
+            return Scanned::at(fault, at, seen, index);
         };
         if kind == kinds::BOUND {
             stores::add_bound(zones, seen.slot, word);
@@ -47,15 +55,12 @@ pub(crate) fn scan(list: &[u32], edges: &mut [u32], zones: &mut [i32]) -> Scanne
         }
         match kind {
             kinds::LOCATION => {
-                let l = seen.locations;
-                index.targets[l] = fields::is_target(word);
-                index.actions[l] = seen.actions as u8;
-                Zone::universe().put(zones, l);
+                index = index.with_location(seen, word);
+                Zone::universe().put(zones, seen.locations);
             }
             kinds::ACTION => {
-                let a = seen.actions;
-                index.edges[a] = seen.edges as u8;
-                Zone::universe().put(zones, GUARDS + a);
+                index = index.with_action(seen);
+                Zone::universe().put(zones, GUARDS + seen.actions);
             }
             kinds::EDGE => {
                 let e = seen.edges;
@@ -69,10 +74,5 @@ pub(crate) fn scan(list: &[u32], edges: &mut [u32], zones: &mut [i32]) -> Scanne
         seen = seen.with_word(word, at);
     }
     let fault = seen.last_fault();
-    Scanned {
-        fault,
-        place: list.len(),
-        seen,
-        index: index.closed(seen),
-    }
+    Scanned::at(fault, list.len(), seen, index.closed(seen))
 }

@@ -3,6 +3,7 @@ ghost use mathlib.Core.Path.{_≡_};
 ghost use Rattle.zone.specs.Words.{kind};
 ghost use Rattle.model.specs.Kinds.{bound, number};
 ghost use Rattle.model.specs.Grammar.{follows?};
+ghost use Rattle.model.specs.Fields.{fields?};
 ghost use Rattle.model.specs.Scan.{WithinLimits, fieldsAt?, limitAt?, addsAt?, faultAt, lastFault};
 ghost use Rattle.model.specs.Scan.{withHead, withLocation, withAction, withEdge, withStart, seenWith};
 use crate::fields;
@@ -53,8 +54,7 @@ impl Seen {
 
     // Whether the fields of a bound word are in their ranges and its spare bits zero. But for the start bounds, one of its clocks is clock 0.
     pub(crate) fn bound_fields(self, word: u32) -> bool
-        requires { ⌜ kind word ≡ number bound ⌝ }
-        ensures { λ r. ⌜ r ≡ fieldsAt? self word ⌝ }
+        ensures { λ r. ⌜ r ≡ fields? bound (self .clocks) (self .denominator) (self .locations) (self .opener) word ⌝ }
     {
         words::bound_fields(self.clocks, word)
             & ((self.opener == kinds::START) | fields::one_zero(word))

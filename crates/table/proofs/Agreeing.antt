@@ -20,11 +20,13 @@ use Rattle.model.specs.declared.index.Index.{Index}
 use Rattle.model.specs.Index.{Kept as ModelKept}
 use Rattle.model.proofs.IndexLaws.{location-at}
 use Rattle.table.specs.Fields.{wholeOf, locationOf, fields?}
-use Rattle.table.specs.Reading.{lastLocation, allDue, dueAfterRow, dueAfterSuccessor, dueWith, due}
+use Rattle.table.specs.Reading.{lastLocation, allDue, dueAfterRow, dueWith, due}
 use Rattle.table.specs.Scan.{nothing, rowsAllowKind?, faultAt, seenWithKind, seenWith, rowOpeners, oneOf?}
 use Rattle.table.specs.declared.seen.Seen.{Seen}
 use Rattle.table.specs.declared.seen.Fault.the-variants as fault
 use Rattle.table.proofs.Passing.{Passes, passes, behind, behind-only, not-one, head-first, before-bound, before-value}
+use Rattle.table.proofs.ScanLaws.{in-row}
+use Rattle.table.proofs.ReadLaws.{target-stays}
 use Rattle.table.proofs.Rows.{LeftDue, none-left, left-row, left-successor, left-value}
 
 -- ---- what the words before come to
@@ -119,7 +121,8 @@ module _ (M : Model) (m : ModelKept) (i : Indexed M m) (whole : ℕ) (before : L
   tallies-kind nodeBound g = let b = added (tableNumber nodeBound) before w (g .named) in let h = a .tallies in omega arith
   tallies-kind value g = let b = added (tableNumber value) before w (g .named) in let h = a .tallies in omega arith
   tallies-kind blocked g = let b = added (tableNumber blocked) before w (g .named) in let h = a .tallies in omega arith
-  tallies-kind successor g = let b = added (tableNumber successor) before w (g .named) in let h = a .tallies in omega arith
+  tallies-kind successor g =
+      let b = added (tableNumber successor) before w (g .named) in let h = a .tallies in let r = in-row x s in omega arith
   tallies-kind startNode g = let b = added (tableNumber startNode) before w (g .named) in let h = a .tallies in omega arith
 
   headed-kind : (k : TableKind) → Goes k → Heads whole before w → Begins whole before s (tableNumber k) → Headed whole (seenWithKind k x s w p)
@@ -131,7 +134,9 @@ module _ (M : Model) (m : ModelKept) (i : Indexed M m) (whole : ℕ) (before : L
   headed-kind nodeBound g first b = head-before b (λ n. omega arith)
   headed-kind value g first b = record { whole = head-before b (λ n. omega arith) .whole; opened = λ o. omega arith }
   headed-kind blocked g first b = record { whole = head-before b (λ n. omega arith) .whole; opened = λ o. omega arith }
-  headed-kind successor g first b = record { whole = head-before b (λ n. omega arith) .whole; opened = λ o. omega arith }
+  headed-kind successor g first b =
+      let r = in-row x s in
+      record { whole = r .whole ∙ head-before b (λ n. omega arith) .whole; opened = λ o. omega (arith, r .opener) }
   headed-kind startNode g first b = record { whole = head-before b (λ n. omega arith) .whole; opened = λ o. omega arith }
 
   exists-kind : (k : TableKind) → Goes k → seenWithKind k x s w p .opener ≡ tableNumber node → seenWithKind k x s w p .location < length (M .locations)
@@ -142,7 +147,7 @@ module _ (M : Model) (m : ModelKept) (i : Indexed M m) (whole : ℕ) (before : L
   exists-kind nodeBound g e = a .exists e
   exists-kind value g e = absurd (omega arith)
   exists-kind blocked g e = absurd (omega arith)
-  exists-kind successor g e = absurd (omega arith)
+  exists-kind successor g e = absurd (omega (arith, in-row x s .opener))
   exists-kind startNode g e = absurd (omega arith)
 
   -- no row is due where the next node or the start node may stand, nor before the first value
@@ -169,7 +174,7 @@ module _ (M : Model) (m : ModelKept) (i : Indexed M m) (whole : ℕ) (before : L
   behind-kind nodeBound g = inl (at-bound g)
   behind-kind value g = inr refl
   behind-kind blocked g = inr refl
-  behind-kind successor g = inr refl
+  behind-kind successor g = inr (ap (oneOf? rowOpeners) (in-row x s .opener))
   behind-kind startNode g = inl (eqb-true (s .rows) 0 (g .rows))
 
   located : Goes value → LocationAt m (s .location) (locationAt M (s .location))
@@ -188,14 +193,15 @@ module _ (M : Model) (m : ModelKept) (i : Indexed M m) (whole : ℕ) (before : L
 
   target-kind : (k : TableKind) → Goes k → oneOf? rowOpeners (seenWithKind k x s w p .opener) ≡ true →
       seenWithKind k x s w p .target ≡ dueWith k M (s .location) (due M before) .target
-  unfolding fields? seenWithKind dueWith allDue dueAfterRow dueAfterSuccessor tableFollows numbered?
+  unfolding fields? seenWithKind dueWith allDue dueAfterRow tableFollows numbered?
   target-kind noKind g o = false-true (g .fields)
   target-kind tableHead g o = false-true o
   target-kind node g o = false-true o
   target-kind nodeBound g o = absurd (not-one rowOpeners (s .opener) (tableNumber node) o refl (before-bound (s .opener) (g .follows)))
   target-kind value g o = located g .target
   target-kind blocked g o = a .target (behind blocked (s .opener) (g .follows) rowOpeners tt)
-  target-kind successor g o = a .target (behind successor (s .opener) (g .follows) rowOpeners tt)
+  target-kind successor g o =
+      in-row x s .target ∙ a .target (behind successor (s .opener) (g .follows) rowOpeners tt) ∙ sym (target-stays (due M before))
   target-kind startNode g o = false-true o
 
   pub agrees-with : faultAt s (x .clocks) (x .locations) w ≡ fault.None → Heads whole before w → Agrees M m whole (w ∷ before) (seenWith x s w p)

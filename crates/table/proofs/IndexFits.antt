@@ -33,7 +33,7 @@ module _ {M : Model} {m : ModelKept} (g : WellFormed M) (i : Indexed M m) where
   at : (l : ℕ) → l < x .locations → LocationAt m l (locationAt M l)
   at l h = location-at i l (rw (← i .locations) h)
 
-  -- an action among those numbered from n on has an edge, and its edges are places in the index's words
+  -- an action among those numbered from n on has an edge, and its edges are places in the store of edge words
   edges-of : (a n : ℕ) (As : List Action) → All (FormedAction M) As → Each (ActionAt m) n As → n ≤ a → a < n + length As →
       (getD (x .edges) a 0 < getD (x .edges) (suc a) 0) × (getD (x .edges) (suc a) 0 ≤ 128)
   unfolding Each

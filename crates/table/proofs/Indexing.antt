@@ -1,5 +1,5 @@
 -- What a pass without faults keeps of a table's words describes the table that they hold. Assumes nothing.
-use Prim.Native.Nat.{ℕ, suc, _+_, _-_, _≤_}
+use Prim.Native.Nat.{ℕ, suc, _+_, _-_, _*_, _≤_}
 use mathlib.Core.Path.{_≡_, refl, sym, ap, subst, _∙_}
 use mathlib.Core.Logic.{_≢_}
 use mathlib.Core.Bool.{false}
@@ -19,12 +19,14 @@ use Rattle.model.specs.Indexed.{Each, withBounds}
 use Rattle.model.specs.declared.index.Index.{Index}
 use Rattle.table.specs.Fields.{wholeOf, numberOf}
 use Rattle.table.specs.Table.{Node, leadingBounds, nodeOf, nodesOf, tableOf}
+use Rattle.table.specs.Nodes.{nodeCount}
 use Rattle.table.specs.Scan.{nothing, seenWith, seenWithKind}
 use Rattle.table.specs.Index.{Kept, keep, StoresFit, keptWithKind, keptWith, Pass, scanned, readAt}
 use Rattle.table.specs.Indexed.{NodeIs, TableIndexed}
 use Rattle.table.specs.declared.seen.Seen.{Seen}
 use Rattle.table.specs.declared.seen.Fault.the-variants as fault
 use Rattle.table.specs.declared.read.TableAnswer.{TableAnswer}
+use Rattle.table.proofs.ScanLaws.{in-row}
 use Rattle.table.proofs.Run.{Run, seenEnd, keptEnd, run-of, end-of}
 use Rattle.table.proofs.Walk.{Step, a-head, a-node, a-bound, a-value, a-blocked, a-successor, a-start, Walk, walk-of}
 use Rattle.table.proofs.Slots.{Good, good-with, KeptAt, kept-end}
@@ -34,7 +36,7 @@ use Rattle.table.proofs.Slots.{Good, good-with, KeptAt, kept-end}
 -- the stores describe the nodes that follow the first n; there are `count` in all
 record Describes (count : ℕ) (end : Kept) (n : ℕ) (Ns : List Node) : Type 0 where
   total : count ≡ n + length Ns
-  limit : count ≤ 64
+  limit : count ≤ nodeCount
   each : Each (NodeIs end) n Ns
 
 module _ (M : Model) (x : Index) (count : ℕ) (end : Kept) (s : Seen) (w p : ℕ) (kept : Kept) (ws : List ℕ) where
@@ -49,7 +51,7 @@ module _ (M : Model) (x : Index) (count : ℕ) (end : Kept) (s : Seen) (w p : �
   describes-with node i (a-node a l) g h d =
       let r = h refl in
       let last : s .nodes + 1 - 1 ≡ s .nodes = omega arith in
-      let room : 1600 ≤ length (kept .zones) = g .stores .zones in
+      let room : nodeCount * 25 ≤ length (kept .zones) = g .stores .zones in
       let this : NodeIs end (s .nodes) (nodeOf M p w ws) = record {
         location = rw last at (r .location);
         value = rw last at (r .value);
@@ -60,7 +62,7 @@ module _ (M : Model) (x : Index) (count : ℕ) (end : Kept) (s : Seen) (w p : �
   describes-with nodeBound i (a-bound e f j) g h d = rw i d
   describes-with value i (a-value e) g h d = rw i d
   describes-with blocked i (a-blocked a) g h d = rw i d
-  describes-with successor i (a-successor a) g h d = rw i d
+  describes-with successor i (a-successor a) g h d = rw i (rw (in-row x s .nodes) at d)
   describes-with startNode i (a-start a) g h d = rw i d
 
 describes :
@@ -93,7 +95,9 @@ module _ (x : Index) where
   headed-with nodeBound s w p (a-bound e i j) = record { begun = λ o. omega arith; first = λ o. absurd (omega arith); stays = λ n. refl }
   headed-with value s w p (a-value e) = record { begun = λ o. omega arith; first = λ o. absurd (omega arith); stays = λ n. refl }
   headed-with blocked s w p (a-blocked a) = record { begun = λ o. omega arith; first = λ o. absurd (a .not-first o); stays = λ n. refl }
-  headed-with successor s w p (a-successor a) = record { begun = λ o. omega arith; first = λ o. absurd (a .not-first o); stays = λ n. refl }
+  headed-with successor s w p (a-successor a) =
+      let r = in-row x s in
+      record { begun = λ o. omega (arith, r .opener); first = λ o. absurd (a .not-first o); stays = λ n. r .whole }
   headed-with startNode s w p (a-start a) = record { begun = λ o. omega arith; first = λ o. absurd (a .not-first o); stays = λ n. refl }
 
   whole-stays : (s : Seen) (p : ℕ) (ws : List ℕ) → Walk x s p ws → s .opener ≢ tableNumber noKind → seenEnd x s p ws .whole ≡ s .whole
@@ -146,7 +150,7 @@ module _ (x : Index) (s f : Seen) (w p : ℕ) (ws : List ℕ) where
   starts-with nodeBound i (a-bound e f′ j) last h = later f w p ws (rw i) (h (λ o. omega arith))
   starts-with value i (a-value e) last h = later f w p ws (rw i) (h (λ o. omega arith))
   starts-with blocked i (a-blocked a) last h = later f w p ws (rw i) (h (λ o. omega arith))
-  starts-with successor i (a-successor a) last h = later f w p ws (rw i) (h (λ o. omega arith))
+  starts-with successor i (a-successor a) last h = later f w p ws (rw i) (h (λ o. omega (arith, in-row x s .opener)))
   starts-with startNode i (a-start a) last h =
       record { start = rw i (ap (λ (s : Seen). s .start) (last refl)); place = rw i (ap (λ (s : Seen). s .place) (last refl) ∙ sym (add-zero p)) }
 

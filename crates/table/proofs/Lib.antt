@@ -6,6 +6,7 @@ pub mod Passing
 pub mod Limits
 pub mod ScanLaws
 pub mod Run
+pub mod ReadLaws
 pub mod Rows
 pub mod Agreeing
 pub mod Checking
@@ -14,5 +15,4 @@ pub mod Slots
 pub mod Indexing
 pub mod Reading
 pub mod IndexFits
-pub mod ReadLaws
 pub mod Shape

@@ -8,7 +8,7 @@ use borrow.Author.Tests.{ltb-true, eqb-true, eqb-false}
 use lib.Dec.{T, eqb}
 use lib.ListN.{getD}
 use Rattle.zone.specs.Words.{bits, kind, boundOf}
-use Rattle.zone.proofs.Bools.{false-true, left-true, right-true}
+use Rattle.zone.proofs.Bools.{by-test, false-true, left-true, right-true}
 use Rattle.model.specs.TableKinds.{TableKind, noKind, tableHead, node, nodeBound, value, blocked, successor, startNode}
 use Rattle.model.specs.TableKinds.{tableNumber, tableKinds, tableKindOf}
 use Rattle.model.specs.Grammar.{tableFollows, numbered?, tableFollows?}
@@ -17,8 +17,10 @@ use Rattle.model.specs.declared.index.Index.{Index}
 use Rattle.model.proofs.KindLaws.{each?, row?}
 use Rattle.table.specs.Fields.{locationOf, fields?}
 use Rattle.table.specs.Reading.{limit?}
+use Rattle.table.specs.Nodes.{nodeCount}
 use Rattle.table.specs.Scan.{nothing, rowsAllowKind?, faultAt, nodeOpeners, oneOf?}
-use Rattle.table.specs.Scan.{firstRow, endRow, rowsAt, edgesAt, sizeAt, withValue, withRow, seenWithKind, seenWith, IndexFits, WithinLimits, RowFits}
+use Rattle.table.specs.Scan.{firstRow, endRow, rowsAt, edgesAt, sizeAt, withValue, withRow, withBegun, seenWithKind, seenWith}
+use Rattle.table.specs.Scan.{IndexFits, WithinLimits, SizeAsked}
 use Rattle.table.specs.declared.seen.Seen.{Seen}
 use Rattle.table.specs.declared.seen.Fault.the-variants as fault
 use Rattle.table.proofs.Passing.{Passes, passes, passes-as, bound-clocks, behind, behind-only, not-one}
@@ -47,17 +49,17 @@ RowsOf x l a rows = 1 ≤ rows → (firstRow x l ≤ a) × (a + rows ≤ endRow 
 
 module _ (x : Index) (fits : IndexFits x) (l : ℕ) (h : l < x .locations) where
   -- what the size of the first row asks
-  row-fits : (a rows : ℕ) → a + rows ≤ 32 → RowsOf x l a rows → RowFits x a rows
+  size-asked : (a rows : ℕ) → a + rows ≤ 32 → RowsOf x l a rows → SizeAsked x a rows
   unfolding firstRow endRow
-  row-fits a rows few at =
+  size-asked a rows few at =
       record {
         action = few;
         edges = λ r. let there = at r in let edges = fits .edges l a h (there .0) (omega arith) in omega arith;
       }
 
-  row-size : (a rows : ℕ) → RowsOf x l a rows → (sizeAt x a rows ≤ 128) × (1 ≤ rows → 1 ≤ sizeAt x a rows)
+  size-limit : (a rows : ℕ) → RowsOf x l a rows → (sizeAt x a rows ≤ 128) × (1 ≤ rows → 1 ≤ sizeAt x a rows)
   unfolding sizeAt edgesAt firstRow endRow
-  row-size a rows at = by (eqb rows 0) (λ e. eqb-true rows 0 e) (λ e. eqb-false rows 0 e)
+  size-limit a rows at = by (eqb rows 0) (λ e. eqb-true rows 0 e) (λ e. eqb-false rows 0 e)
     where
       by : (c : Bool) → (c ≡ true → rows ≡ 0) → (c ≡ false → rows ≢ 0) →
           (cond c 0 (edgesAt x a) ≤ 128) × (1 ≤ rows → 1 ≤ cond c 0 (edgesAt x a))
@@ -85,16 +87,16 @@ module _ (x : Index) (fits : IndexFits x) (l : ℕ) (h : l < x .locations) where
   unfolding endRow
   rows-limit = let few = rows-few in let actions = fits .actions l h in omega arith
 
-  pub value-fits : RowFits x (firstRow x l) (rowsAt x l)
-  value-fits = row-fits (firstRow x l) (rowsAt x l) rows-limit all-rows
+  pub value-asked : SizeAsked x (firstRow x l) (rowsAt x l)
+  value-asked = size-asked (firstRow x l) (rowsAt x l) rows-limit all-rows
 
 -- where such rows are due and none is begun
 first-limits :
-    (x : Index) (s : Seen) → IndexFits x → tableOpener? (s .opener) ≡ true → oneOf? nodeOpeners (s .opener) ≡ true → s .nodes ≤ 64 →
+    (x : Index) (s : Seen) → IndexFits x → tableOpener? (s .opener) ≡ true → oneOf? nodeOpeners (s .opener) ≡ true → s .nodes ≤ nodeCount →
     (1 ≤ s .nodes) × (s .location < x .locations) → s .action + s .rows ≤ 32 → RowsOf x (s .location) (s .action) (s .rows) →
     s .size ≡ sizeAt x (s .action) (s .rows) → s .begun ≡ 0 → WithinLimits x s
 first-limits x s fits o on most there few at es eb =
-    let size = row-size x fits (s .location) (there .1) (s .action) (s .rows) at in
+    let size = size-limit x fits (s .location) (there .1) (s .action) (s .rows) at in
     record {
       opener = o;
       nodes = most;
@@ -123,8 +125,8 @@ module _ (x : Index) (s : Seen) (fits : IndexFits x) (h : WithinLimits x s) wher
     rows-behind : RowsOf x (s .location) (s .action + 1) (s .rows - 1)
     rows-behind q = let rows = h .rows (omega arith) in (omega arith, omega arith)
 
-    next-fits : RowFits x (s .action + 1) (s .rows - 1)
-    next-fits = row-fits x fits (s .location) (there .1) (s .action + 1) (s .rows - 1) few rows-behind
+    next-asked : SizeAsked x (s .action + 1) (s .rows - 1)
+    next-asked = size-asked x fits (s .location) (there .1) (s .action + 1) (s .rows - 1) few rows-behind
 
     row-limits : (o : ℕ) → tableOpener? o ≡ true → oneOf? nodeOpeners o ≡ true → WithinLimits x (withRow x s o)
     row-limits o opened on = first-limits x (withRow x s o) fits opened on (h .nodes) there few rows-behind refl refl
@@ -148,7 +150,7 @@ module _ (x : Index) (s : Seen) (fits : IndexFits x) (h : WithinLimits x s) wher
     node-limits : Passes node x s w → WithinLimits x (seenWithKind node x s w p)
     unfolding seenWithKind limit? fields? rowsAllowKind?
     node-limits g =
-        let few : s .nodes < 64 = ltb-true _ _ (g .limit) in
+        let few : s .nodes < nodeCount = ltb-true _ _ (g .limit) in
         let there : locationOf w < x .locations = ltb-true _ _ (right-true (eqb (bits 23 0 w) 0) _ (g .fields)) in
         let done : s .rows ≡ 0 = eqb-true _ _ (g .rows) in
         record {
@@ -175,43 +177,23 @@ module _ (x : Index) (s : Seen) (fits : IndexFits x) (h : WithinLimits x s) wher
 
     successor-limits : Passes successor x s w → WithinLimits x (seenWithKind successor x s w p)
     unfolding seenWithKind rowsAllowKind? numbered?
-    successor-limits g = by (eqb (s .begun + 1) (s .size)) (λ e. eqb-false _ _ e)
-      where
-        r : 1 ≤ s .rows
-        r = ltb-true _ _ (g .rows)
-
-        opened : tableOpener? (tableNumber successor) ≡ true
-        opened = opens successor (λ e. omega arith)
-
-        -- the row is complete, or it is not
-        by :
-            (c : Bool) → (c ≡ false → s .begun + 1 ≢ s .size) →
-            WithinLimits x record {
-              opener = tableNumber successor;
-              whole = s .whole;
-              nodes = s .nodes;
-              location = s .location;
-              target = s .target;
-              action = cond c (s .action + 1) (s .action);
-              rows = cond c (s .rows - 1) (s .rows);
-              size = cond c (sizeAt x (s .action + 1) (s .rows - 1)) (s .size);
-              begun = cond c 0 (s .begun + 1);
-              start = s .start;
-              place = s .place;
-            }
-        by true n = row-limits r (tableNumber successor) opened refl
-        by false n =
-            let begun = h .begun r .1 in
-            let more : s .begun + 1 ≢ s .size = n refl in
-            record {
-              opener = opened;
-              nodes = h .nodes;
-              node = λ a. there r;
-              begun = λ q. (refl, omega arith);
-              size = h .size;
-              action = h .action;
-              rows = h .rows;
-            }
+    successor-limits g =
+        let r : 1 ≤ s .rows = ltb-true _ _ (g .rows) in
+        let opened = opens successor (λ e. omega arith) in
+        by-test (λ (t : Seen). WithinLimits x t) (eqb (s .begun + 1) (s .size)) (withRow x s (tableNumber successor)) (withBegun s)
+        (λ e. row-limits r (tableNumber successor) opened refl)
+        (λ e.
+        let begun = h .begun r .1 in
+        let more = eqb-false (s .begun + 1) (s .size) e in
+        record {
+          opener = opened;
+          nodes = h .nodes;
+          node = λ a. there r;
+          begun = λ q. (refl, omega arith);
+          size = h .size;
+          action = h .action;
+          rows = h .rows;
+        })
 
     start-limits : Passes startNode x s w → WithinLimits x (seenWithKind startNode x s w p)
     unfolding seenWithKind rowsAllowKind? tableFollows numbered?
@@ -258,7 +240,7 @@ module _ (x : Index) (s : Seen) (w : ℕ) (fits : IndexFits x) (h : WithinLimits
   -- ---- what a word that fails no check says
 
   -- there is room for a node
-  pub node-room : kind w ≡ tableNumber node → s .nodes < 64
+  pub node-room : kind w ≡ tableNumber node → s .nodes < nodeCount
   unfolding limit?
   node-room e = ltb-true _ _ (passes-as node x s w e f .limit)
 
@@ -276,11 +258,11 @@ module _ (x : Index) (s : Seen) (w : ℕ) (fits : IndexFits x) (h : WithinLimits
       (node-behind x s fits h nodeBound tt (g .follows) .0, clocks .0, clocks .1)
 
   -- a word of a row stands where one is due
-  pub blocked-asks : kind w ≡ tableNumber blocked → (1 ≤ s .rows) × RowFits x (s .action + 1) (s .rows - 1)
+  pub blocked-asks : kind w ≡ tableNumber blocked → (1 ≤ s .rows) × SizeAsked x (s .action + 1) (s .rows - 1)
   unfolding rowsAllowKind?
-  blocked-asks e = let r = ltb-true _ _ (left-true _ _ (passes-as blocked x s w e f .rows)) in (r, next-fits x s fits h r)
+  blocked-asks e = let r = ltb-true _ _ (left-true _ _ (passes-as blocked x s w e f .rows)) in (r, next-asked x s fits h r)
 
   pub successor-asks :
-      kind w ≡ tableNumber successor → (1 ≤ s .rows) × RowFits x (s .action + 1) (s .rows - 1) × (s .begun < s .size) × (s .size ≤ 128)
+      kind w ≡ tableNumber successor → (1 ≤ s .rows) × SizeAsked x (s .action + 1) (s .rows - 1) × (s .begun < s .size) × (s .size ≤ 128)
   unfolding rowsAllowKind?
-  successor-asks e = let r = ltb-true _ _ (passes-as successor x s w e f .rows) in (r, next-fits x s fits h r, h .begun r .1, h .size)
+  successor-asks e = let r = ltb-true _ _ (passes-as successor x s w e f .rows) in (r, next-asked x s fits h r, h .begun r .1, h .size)

@@ -11,7 +11,7 @@ use lib.ListN.{getD, length, drop}
 use lib.Seq.{drop-drop}
 use Rattle.zone.specs.Words.{kind}
 use Rattle.zone.proofs.Bools.{by-test}
-use Rattle.model.specs.TableKinds.{TableKind, noKind, tableHead, node, nodeBound, value, blocked, successor, startNode, tableNumber}
+use Rattle.model.specs.TableKinds.{TableKind, noKind, tableHead, node, nodeBound, value, blocked, successor, startNode}
 use Rattle.model.specs.TableKinds.{tableNumber, isTable, tableKindOf}
 use Rattle.model.specs.Before.{openerFrom, countOf}
 use Rattle.model.specs.Model.{Action, Model}
@@ -37,20 +37,24 @@ lacking-row : (begun : ℕ) (ns : List ℕ) → Lacking begun ns → Lacking 0 (
 lacking-row begun [] h = tt
 lacking-row begun (n ∷ ns) h = h .1
 
-lacking-successor : (begun : ℕ) (ns : List ℕ) → Lacking begun ns →
-    let done : Bool = eqb (suc begun) (getD ns 0 0) in Lacking (cond done 0 (suc begun)) (cond done (drop 1 ns) ns)
-lacking-successor begun ns h = by (eqb (suc begun) (getD ns 0 0)) (λ e. eqb-false (suc begun) (getD ns 0 0) e)
+lacking-successor : (d : Due) → LackingDue d → LackingDue (dueAfterSuccessor d)
+unfolding dueAfterSuccessor dueAfterRow
+lacking-successor d h =
+    by-test LackingDue (eqb (suc (d .begun)) (getD (d .rows) 0 0)) (dueAfterRow d) _ (λ e. lacking-row (d .begun) (d .rows) h)
+    λ e. more-left (d .begun) (d .rows) h (eqb-false _ _ e)
   where
-    more-left : (ns : List ℕ) → Lacking begun ns → suc begun ≢ getD ns 0 0 → Lacking (suc begun) ns
-    more-left [] h e = tt
-    more-left (n ∷ ns) h e = (less (h .0) e, h .1)
+    more-left : (begun : ℕ) (ns : List ℕ) → Lacking begun ns → suc begun ≢ getD ns 0 0 → Lacking (suc begun) ns
+    more-left begun [] h e = tt
+    more-left begun (n ∷ ns) h e = (less (h .0) e, h .1)
       where
         less : begun < n → suc begun ≢ n → suc begun < n
         less l m = omega arith
 
-    by : (c : Bool) → (c ≡ false → suc begun ≢ getD ns 0 0) → Lacking (cond c 0 (suc begun)) (cond c (drop 1 ns) ns)
-    by true e = lacking-row begun ns h
-    by false e = more-left ns h (e refl)
+-- a B keeps whether the location is a target
+pub target-stays : (d : Due) → dueAfterSuccessor d .target ≡ d .target
+unfolding dueAfterSuccessor dueAfterRow
+target-stays d =
+    by-test (λ (e : Due). e .target ≡ d .target) (eqb (suc (d .begun)) (getD (d .rows) 0 0)) (dueAfterRow d) _ (λ e. refl) λ e. refl
 
 lacking-counts : (M : Model) (As : List Action) → All (FormedAction M) As → Lacking 0 (edgeCounts As)
 unfolding edgeCounts
@@ -64,14 +68,14 @@ lacking-all M l h =
     λ e. lacking-counts M (locationAt M l .actions) (h .actions l)
 
 pub lacking-with : (k : TableKind) (M : Model) (l : ℕ) (d : Due) → WellFormed M → LackingDue d → LackingDue (dueWith k M l d)
-unfolding dueWith dueAfterRow dueAfterSuccessor
+unfolding dueWith dueAfterRow
 lacking-with noKind M l d h g = tt
 lacking-with tableHead M l d h g = tt
 lacking-with node M l d h g = tt
 lacking-with nodeBound M l d h g = tt
 lacking-with value M l d h g = lacking-all M l h
 lacking-with blocked M l d h g = lacking-row (d .begun) (d .rows) g
-lacking-with successor M l d h g = lacking-successor (d .begun) (d .rows) g
+lacking-with successor M l d h g = lacking-successor d g
 lacking-with startNode M l d h g = tt
 
 -- ---- a word more

@@ -1,6 +1,6 @@
 -- What reading a table hands back: what the pass comes to, with the answer of the whole file. Assumes nothing.
 use Prim.Native.Nat.{ℕ, _≤_}
-use mathlib.Core.Path.{_≡_, refl, sym, subst}
+use mathlib.Core.Path.{_≡_, refl, sym, ap, subst}
 use mathlib.Core.List.{List}
 use native.Mathlib.Omega.{arith}
 use lib.IntN.{ℤ}
@@ -9,7 +9,7 @@ use Rattle.model.specs.Indexed.{Indexed}
 use Rattle.model.specs.declared.index.Index.{Index}
 use Rattle.model.specs.Index.{Kept as ModelKept}
 use Rattle.table.specs.Scan.{IndexFits}
-use Rattle.table.specs.Index.{StoresFit, Pass, passOf, scanned, numbersAnswer, answerOf, readAt, readOf}
+use Rattle.table.specs.Index.{keep, StoresFit, Pass, passOf, scanned, numbersAnswer, answerOf, readAt, readOf}
 use Rattle.table.specs.Indexed.{ReadTable, ReadFor}
 use Rattle.table.specs.declared.seen.Fault.{Fault}
 use Rattle.table.specs.declared.seen.Fault.the-variants as fault
@@ -43,10 +43,16 @@ module _ (words ns : List ℕ) (zs : List ℤ) (f : StoresFit ns zs) where
   pub read-for : (x : Index) → IndexFits x → let q : Pass = scanned x words ns zs in ReadFor x words (readOf q words) (q .kept .nodes) (q .kept .zones)
   read-for x g = record { reads = λ M m e i. rw (← e) (read-table M m (rw e (g .clocks)) i) }
 
-  -- what the steps come to
+  -- what the steps come to: the answer and what stands beside it, what is left in the stores, and what both say of the words
   pub returned :
       (x : Index) → IndexFits x → (s : Scanned) (a : TableAnswer) (ms : List ℕ) (ys : List ℤ) →
       passOf s ms ys ≡ scanned x words ns zs → a ≡ answerOf (s .fault) (s .place) (numbersAnswer (s .seen .nodes) 0 words) →
-      ReadFor x words (readAt a (s .seen)) ms ys
-  returned x g s a ms ys es ea =
-      rw ea (subst (λ (q : Pass). ReadFor x words (readOf q words) (q .kept .nodes) (q .kept .zones)) (sym es) (read-for x g))
+      let q : Pass = scanned x words ns zs in
+      (readAt a (s .seen) ≡ readOf q words) × ((keep ms ys ≡ q .kept) × ReadFor x words (readAt a (s .seen)) ms ys)
+  returned x g s a ms ys es ea = (
+    rw ea (ap (λ (q : Pass). readOf q words) es),
+    (
+      ap (λ (q : Pass). q .kept) es,
+      rw ea (subst (λ (q : Pass). ReadFor x words (readOf q words) (q .kept .nodes) (q .kept .zones)) (sym es) (read-for x g)),
+    ),
+  )

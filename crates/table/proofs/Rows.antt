@@ -1,13 +1,13 @@
 -- The rows that are due behind some words, and the numbers by which the pass knows them. Assumes nothing.
 use Prim.Native.Nat.{ℕ, suc, _+_, _-_}
-use mathlib.Core.Path.{_≡_, refl, sym, subst, _∙_}
+use mathlib.Core.Path.{_≡_, refl, sym, ap, subst, _∙_}
 use mathlib.Core.Bool.{Bool, true, false, cond}
 use mathlib.Core.List.{List, [], _∷_}
 use native.Mathlib.Numerals.{add-one}
 use native.Mathlib.Omega.{arith}
 use borrow.Author.Tests.{ne-eqb, ltb-true, lt-ltb}
 use lib.Dec.{eqb, ltb}
-use lib.ListN.{length}
+use lib.ListN.{getD, length}
 use Rattle.model.specs.TableKinds.{TableKind, noKind, tableHead, node, nodeBound, value, blocked, successor, startNode, tableNumber}
 use Rattle.model.specs.Model.{Action, Location, Model}
 use Rattle.model.specs.States.{locationAt}
@@ -15,7 +15,7 @@ use Rattle.model.specs.Indexed.{Each, ActionAt, LocationAt}
 use Rattle.model.specs.Index.{Kept as ModelKept}
 use Rattle.table.specs.Table.{rowActions}
 use Rattle.table.specs.Reading.{Due, edgeCounts, allDue, dueAfterRow, dueAfterSuccessor, rowsAllow?}
-use Rattle.table.specs.Scan.{rowsAllowKind?, withValue, withRow, withSuccessor, firstRow, endRow, rowsAt, edgesAt, sizeAt}
+use Rattle.table.specs.Scan.{rowsAllowKind?, withValue, withRow, withBegun, withSuccessor, firstRow, endRow, rowsAt, edgesAt, sizeAt}
 use Rattle.table.specs.declared.seen.Seen.{Seen}
 
 -- the rows that are due, each by the number of its B words, and the pass's numbers for them: none, or a first one and behind it those of the
@@ -74,25 +74,15 @@ module _ (m : ModelKept) (d : Due) (s : Seen) where
   pub left-successor : LeftDue m d s → ltb 0 (s .rows) ≡ true → LeftDue m (dueAfterSuccessor d) (withSuccessor (m .index) s)
   unfolding dueAfterSuccessor
   left-successor (none-left e f) t = let r = ltb-true 0 (s .rows) t in absurd (omega arith)
-  left-successor (row-left As a e f b) t = rw (e, ← b, add-one (s .begun)) (by (eqb (suc (s .begun)) (s .size)))
+  left-successor (row-left As a e f b) t =
+      let same : eqb (suc (d .begun)) (getD (d .rows) 0 0) ≡ eqb (s .begun + 1) (s .size) = rw (e, b, add-one (d .begun)) in
+      rw same (by (eqb (s .begun + 1) (s .size)))
     where
       by :
-          (c : Bool) → Left m (cond c (edgeCounts As) (s .size ∷ edgeCounts As)) (cond c 0 (suc (s .begun)))
-          (record {
-            opener = tableNumber successor;
-            whole = s .whole;
-            nodes = s .nodes;
-            location = s .location;
-            target = s .target;
-            action = cond c (s .action + 1) (s .action);
-            rows = cond c (s .rows - 1) (s .rows);
-            size = cond c (sizeAt (m .index) (s .action + 1) (s .rows - 1)) (s .size);
-            begun = cond c 0 (suc (s .begun));
-            start = s .start;
-            place = s .place;
-          })
-      by true = row-done (tableNumber successor) As a f
-      by false = row-left As a refl f refl
+          (c : Bool) → LeftDue m (cond c (dueAfterRow d) (record { rows = d .rows; begun = suc (d .begun); target = d .target }))
+          (cond c (withRow (m .index) s (tableNumber successor)) (withBegun s))
+      by true = left-row (tableNumber successor) (row-left As a e f b) t
+      by false = row-left As a e f (add-one (s .begun) ∙ ap suc b)
 
 -- the actions of a location that have a row
 rows-each : (m : ModelKept) (n : ℕ) (c : Bool) (As : List Action) → Each (ActionAt m) n As → Each (ActionAt m) n (cond c [] As)

@@ -1,25 +1,25 @@
 -- Laws of the pass over a table's words: what a turn of the loop comes to. Assumes nothing.
-use Prim.Native.Nat.{ℕ, _+_, _-_, _≤_, _<_}
+use Prim.Native.Nat.{ℕ, _+_, _-_, _*_, _≤_, _<_}
 use mathlib.Core.Path.{_≡_, refl, sym, ap, _∙_}
 use mathlib.Core.Bool.{Bool, true, false, not, _&&_, _||_}
 use mathlib.Core.List.{List}
 use native.Mathlib.Numerals.{add-one}
 use native.Mathlib.Omega.{arith}
 use borrow.Author.Tests.{leb-true, leb-false, lt-ltb, le-ltb}
-use lib.Dec.{leb, ltb}
+use lib.Dec.{eqb, leb, ltb}
 use lib.IntN.{ℤ}
 use lib.ListN.{length, drop, getD, drop-of-length-le}
 use lib.Seq.{drop-cons}
 use Rattle.zone.specs.Words.{kind}
 use Rattle.zone.specs.Squares.{universe}
 use Rattle.zone.specs.Stores.{putAt, withWordAt, HasSlot}
-use Rattle.zone.proofs.Bools.{false-true}
+use Rattle.zone.proofs.Bools.{by-test, false-true}
 use Rattle.zone.proofs.StoreLaws.{put-length, word-length}
 use Rattle.model.specs.TableKinds.{TableKind, noKind, tableHead, node, nodeBound, value, blocked, successor, startNode, tableNumber, isTable, tableKindOf}
 use Rattle.model.specs.declared.index.Index.{Index}
 use Rattle.table.specs.Fields.{numberOf}
-use Rattle.table.specs.Nodes.{entryOf, putEntry, HasNode}
-use Rattle.table.specs.Scan.{faultAt, lastFault, seenWithKind, seenWith}
+use Rattle.table.specs.Nodes.{nodeCount, entryOf, putEntry, HasNode}
+use Rattle.table.specs.Scan.{faultAt, lastFault, withRow, withBegun, withSuccessor, seenWithKind, seenWith}
 use Rattle.table.specs.Scan.{IndexFits, WithinLimits}
 use Rattle.table.specs.Index.{Kept, keep, keptWithKind, keptWith, Pass, passAt, unlessFault, scanFrom, numbersAnswer}
 use Rattle.table.specs.declared.seen.Seen.{Seen}
@@ -55,6 +55,20 @@ module _ (s : Seen) (w p : ℕ) where
         at successor q = absurd (b q)
         at startNode q = absurd (c q)
 
+-- with a successor: it is the last word that is no bound, and what tells nothing of rows stays
+pub record InRow (new old : Seen) : Type 0 where
+  pub opener : new .opener ≡ tableNumber successor
+  pub whole : new .whole ≡ old .whole
+  pub nodes : new .nodes ≡ old .nodes
+  pub location : new .location ≡ old .location
+  pub target : new .target ≡ old .target
+
+pub in-row : (x : Index) (s : Seen) → InRow (withSuccessor x s) s
+in-row x s =
+    by-test (λ (t : Seen). InRow t s) (eqb (s .begun + 1) (s .size)) (withRow x s (tableNumber successor)) (withBegun s)
+    (λ e. record { opener = refl; whole = refl; nodes = refl; location = refl; target = refl })
+    λ e. record { opener = refl; whole = refl; nodes = refl; location = refl; target = refl }
+
 -- the stores keep their lengths
 pub record AsLong (new old : Kept) : Type 0 where
   pub nodes : length (new .nodes) ≡ length (old .nodes)
@@ -71,12 +85,12 @@ as-long blocked s w p kept = record { nodes = refl; zones = refl }
 as-long successor s w p kept = record { nodes = refl; zones = refl }
 as-long startNode s w p kept = record { nodes = refl; zones = refl }
 
--- a store as long as one that fits has a place for each of 64 nodes
-pub has-slot : {n l : ℕ} {zs : List ℤ} → n < 64 → length zs ≡ l → 1600 ≤ l → HasSlot n zs
-has-slot h e room = record { number = h; room = omega arith }
+-- a store as long as one that fits has a place for each node
+pub has-slot : {n l : ℕ} {zs : List ℤ} → n < nodeCount → length zs ≡ l → nodeCount * 25 ≤ l → HasSlot n zs
+has-slot h e room = record { room = omega arith }
 
-pub has-node : {n l : ℕ} {ns : List ℕ} → n < 64 → length ns ≡ l → 192 ≤ l → HasNode n ns
-has-node h e room = record { number = h; room = omega arith }
+pub has-node : {n l : ℕ} {ns : List ℕ} → n < nodeCount → length ns ≡ l → nodeCount * 3 ≤ l → HasNode n ns
+has-node h e room = record { room = omega arith }
 
 -- what is kept with the word w, by its kind
 module _ (s : Seen) (w p : ℕ) (ns : List ℕ) (zs : List ℤ) where

@@ -3,7 +3,7 @@
 use Prim.Native.Nat.{ℕ, zero, suc, _+_, _-_, _≤_, _<_, _^_}
 use mathlib.Core.Path.{_≡_, refl, sym, ap, subst, _∙_}
 use mathlib.Core.Logic.{_⊎_, inl, inr, _≢_}
-use mathlib.Core.Bool.{Bool, true, false, not, cond, _&&_, _||_}
+use mathlib.Core.Bool.{Bool, true, false, not, _&&_, _||_}
 use mathlib.Core.List.{List, [], _∷_}
 use native.Mathlib.Omega.{arith}
 use borrow.Author.Tests.{eqb-true}
@@ -12,7 +12,7 @@ use lib.ListN.{getD, length, drop, length-drop}
 use lib.Seq.{drop-drop}
 use Rattle.zone.specs.Words.{bits, kind, boundOf, goodBound?, zoneOf}
 use Rattle.zone.specs.Checks.{Check}
-use Rattle.zone.proofs.Bools.{both, and, is-true}
+use Rattle.zone.proofs.Bools.{by-test, both, and, is-true}
 use Rattle.zone.proofs.CheckLaws.{AllHold, all-left, all-right}
 use Rattle.model.specs.TableKinds.{TableKind, noKind, tableHead, node, nodeBound, value, blocked, successor, startNode, tableNumber}
 use Rattle.model.specs.TableKinds.{tableNumber, isTable, tableKindOf}
@@ -92,38 +92,32 @@ module _ (nodes : ℕ) where
     due-blocked zero (n ∷ ns) e t h = rw e (omega arith, h)
     due-blocked (suc begun) (n ∷ ns) e t h = let z : suc begun ≡ 0 = eqb→eq (suc begun) 0 t in absurd (omega arith)
 
-    -- behind a B, what the row lacks stands
-    left : (begun n : ℕ) (ns : List ℕ) →
-        let done : Bool = eqb (suc begun) n in
-        DueStand (cond done 0 (suc begun)) (cond done ns (n ∷ ns)) ws → Onward (n - suc begun) ws × DueStand 0 ns (drop (n - suc begun) ws)
-    left begun n ns = by (eqb (suc begun) n) (λ e. eqb-true (suc begun) n e)
+    -- behind a B, what its row lacks stands, and the rows behind it
+    left : (d : Due) → DueStand (dueAfterSuccessor d .begun) (dueAfterSuccessor d .rows) ws → DueStand (suc (d .begun)) (d .rows) ws
+    unfolding dueAfterSuccessor dueAfterRow
+    left d =
+        by-test (λ (e : Due). DueStand (e .begun) (e .rows) ws → DueStand (suc (d .begun)) (d .rows) ws)
+        (eqb (suc (d .begun)) (getD (d .rows) 0 0)) (dueAfterRow d) _ (λ e. last (d .begun) (d .rows) (eqb-true _ _ e)) λ e h. h
       where
-        last : suc begun ≡ n → DueStand 0 ns ws → Onward (n - suc begun) ws × DueStand 0 ns (drop (n - suc begun) ws)
-        last e h =
+        last : (begun : ℕ) (ns : List ℕ) → suc begun ≡ getD ns 0 0 → DueStand 0 (drop 1 ns) ws → DueStand (suc begun) ns ws
+        last begun [] e h = tt
+        last begun (n ∷ ns) e h =
             let z : n - suc begun ≡ 0 = omega arith in
             subst (λ (m : ℕ). Onward m ws × DueStand 0 ns (drop m ws)) (sym z) ((omega arith, λ i l. absurd (omega arith)), h)
 
-        by : (c : Bool) → (c ≡ true → suc begun ≡ n) → DueStand (cond c 0 (suc begun)) (cond c ns (n ∷ ns)) ws →
-            Onward (n - suc begun) ws × DueStand 0 ns (drop (n - suc begun) ws)
-        by true e h = last (e refl) h
-        by false e h = h
-
     due-successor :
-        (begun : ℕ) (ns : List ℕ) → kind w ≡ tableNumber successor → T (not (none? ns)) → numberOf w < nodes → Lacking begun ns →
-        let done : Bool = eqb (suc begun) (getD ns 0 0) in
-        DueStand (cond done 0 (suc begun)) (cond done (drop 1 ns) ns) ws → DueStand begun ns (w ∷ ws)
+        (begun : ℕ) (ns : List ℕ) → kind w ≡ tableNumber successor → numberOf w < nodes → Lacking begun ns → DueStand (suc begun) ns ws →
+        DueStand begun ns (w ∷ ws)
     unfolding RowStands rowSize
-    due-successor begun [] e t l g h = tt
-    due-successor zero (n ∷ ns) e t l g h =
-        let r = left zero n ns h in
+    due-successor begun [] e l g h = tt
+    due-successor zero (n ∷ ns) e l g h =
         let z : suc (n - 1) ≡ n = omega (arith, g .0) in
         let both : Onward n (w ∷ ws) × DueStand 0 ns (drop n (w ∷ ws)) =
-        subst (λ (m : ℕ). Onward m (w ∷ ws) × DueStand 0 ns (drop m (w ∷ ws))) z (onward-more (n - 1) w ws l (r .0), r .1) in
+        subst (λ (m : ℕ). Onward m (w ∷ ws) × DueStand 0 ns (drop m (w ∷ ws))) z (onward-more (n - 1) w ws l (h .0), h .1) in
         rw e ((g .0, both .0 .0, both .0 .1), both .1)
-    due-successor (suc begun) (n ∷ ns) e t l g h =
-        let r = left (suc begun) n ns h in
+    due-successor (suc begun) (n ∷ ns) e l g h =
         let z : suc (n - suc (suc begun)) ≡ n - suc begun = omega (arith, g .0) in
-        subst (λ (m : ℕ). Onward m (w ∷ ws) × DueStand 0 ns (drop m (w ∷ ws))) z (onward-more (n - suc (suc begun)) w ws l (r .0), r .1)
+        subst (λ (m : ℕ). Onward m (w ∷ ws) × DueStand 0 ns (drop m (w ∷ ws))) z (onward-more (n - suc (suc begun)) w ws l (h .0), h .1)
 
 -- ---- the words, from the last back to the first
 
@@ -209,7 +203,7 @@ module _ (M : Model) (W : Table) (words : List ℕ) where
     stands-with :
         (k : TableKind) → Passes k o d w → LackingDue d → drop (suc p) words ≡ ws →
         Stands (openerWith k o) (locationWith k w l) (dueWith k M l d) (suc p) ws → Stands o l d p (w ∷ ws)
-    unfolding tableFollows numbered? fields? rowsAllow? dueWith allDue dueAfterRow dueAfterSuccessor nodesOf indexOf
+    unfolding tableFollows numbered? fields? rowsAllow? dueWith allDue dueAfterRow nodesOf indexOf
     stands-with noKind g n e r = absurd (g .fields)
     stands-with tableHead g n e r =
         let first = behind-only tableHead o (g .follows) noKind tt in
@@ -264,7 +258,8 @@ module _ (M : Model) (W : Table) (words : List ℕ) where
           head = λ i. absurd (not-one rowOpeners o (tableNumber noKind) within refl i);
           behind = λ i. absurd (not-one rowOpeners o (tableNumber node) within refl i);
           rows = λ i.
-              due-successor (length (W .nodes)) w ws (d .begun) (d .rows) (g .named) (g .rows) (number-there successor (inl refl) g) n (r .rows refl);
+              due-successor (length (W .nodes)) w ws (d .begun) (d .rows) (g .named) (number-there successor (inl refl) g) n
+              (left (length (W .nodes)) w ws d (r .rows refl));
           nodes = rw (g .named) (r .nodes);
           start = λ i. rw (g .named) (r .start (λ j. omega arith));
         }

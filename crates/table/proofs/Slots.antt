@@ -1,5 +1,5 @@
 -- What a pass over a table keeps of its nodes and their zones: what a node's words leave, and that no later word changes it. Assumes nothing.
-use Prim.Native.Nat.{ℕ, suc, _+_, _-_, _≤_, _<_}
+use Prim.Native.Nat.{ℕ, suc, _+_, _-_, _*_, _≤_, _<_}
 use mathlib.Core.Path.{_≡_, refl, sym, ap, _∙_}
 use mathlib.Core.List.{List, [], _∷_}
 use native.Mathlib.Nat.{add-zero}
@@ -16,20 +16,20 @@ use Rattle.model.specs.Indexed.{withBounds}
 use Rattle.model.specs.declared.index.Index.{Index}
 use Rattle.table.specs.Fields.{valueOf}
 use Rattle.table.specs.Table.{leadingBounds}
-use Rattle.table.specs.Nodes.{entryOf, entryAt}
+use Rattle.table.specs.Nodes.{nodeCount, entryOf, entryAt}
 use Rattle.table.specs.Scan.{seenWith, seenWithKind}
 use Rattle.table.specs.Index.{Kept, StoresFit, keptWithKind, keptWith}
 use Rattle.table.specs.declared.seen.Seen.{Seen}
 use Rattle.table.specs.declared.nodes.NodeEntry.{NodeEntry}
 use Rattle.table.proofs.NodeLaws.{entry-here, entry-apart}
-use Rattle.table.proofs.ScanLaws.{as-long}
+use Rattle.table.proofs.ScanLaws.{in-row, as-long}
 use Rattle.table.proofs.Run.{keptEnd}
 use Rattle.table.proofs.Walk.{Step, a-head, a-node, a-bound, a-value, a-blocked, a-successor, a-start, Walk}
 
 -- what holds while no check has failed: the stores have room, behind a node word there is a node, and a location is a number of four bits
 pub record Good (s : Seen) (k : Kept) : Type 0 where
   pub stores : StoresFit (k .nodes) (k .zones)
-  pub limit : s .nodes ≤ 64
+  pub limit : s .nodes ≤ nodeCount
   pub begun : s .opener ≡ tableNumber node → 1 ≤ s .nodes
   pub location : s .location < 16
 
@@ -41,13 +41,13 @@ module _ (x : Index) (s : Seen) (w p : ℕ) (kept : Kept) where
       stores : (k : TableKind) → let next : Kept = keptWithKind k s w p kept in StoresFit (next .nodes) (next .zones)
       stores k = let h = as-long k s w p kept in let room = g .stores in omega arith
 
-      limit : (k : TableKind) → Step s w k → seenWithKind k x s w p .nodes ≤ 64
+      limit : (k : TableKind) → Step s w k → seenWithKind k x s w p .nodes ≤ nodeCount
       limit tableHead (a-head e) = g .limit
       limit node (a-node a l) = omega arith
       limit nodeBound (a-bound e i j) = g .limit
       limit value (a-value e) = g .limit
       limit blocked (a-blocked a) = g .limit
-      limit successor (a-successor a) = g .limit
+      limit successor (a-successor a) = rw (in-row x s .nodes) (g .limit)
       limit startNode (a-start a) = g .limit
 
       begun : (k : TableKind) → Step s w k → seenWithKind k x s w p .opener ≡ tableNumber node → 1 ≤ seenWithKind k x s w p .nodes
@@ -56,7 +56,7 @@ module _ (x : Index) (s : Seen) (w p : ℕ) (kept : Kept) where
       begun nodeBound (a-bound e i j) o = g .begun o
       begun value (a-value e) o = absurd (omega arith)
       begun blocked (a-blocked a) o = absurd (omega arith)
-      begun successor (a-successor a) o = absurd (omega arith)
+      begun successor (a-successor a) o = absurd (omega (arith, in-row x s .opener))
       begun startNode (a-start a) o = absurd (omega arith)
 
       location : (k : TableKind) → Step s w k → seenWithKind k x s w p .location < 16
@@ -65,7 +65,7 @@ module _ (x : Index) (s : Seen) (w p : ℕ) (kept : Kept) where
       location nodeBound (a-bound e i j) = g .location
       location value (a-value e) = g .location
       location blocked (a-blocked a) = g .location
-      location successor (a-successor a) = g .location
+      location successor (a-successor a) = rw (in-row x s .location) (g .location)
       location startNode (a-start a) = g .location
 
 -- ---- no later word changes what is kept of a node whose value was read
@@ -88,7 +88,8 @@ module _ (x : Index) (s : Seen) (w p q : ℕ) (kept : Kept) where
   settled-with nodeBound (a-bound e i j) h = h
   settled-with value (a-value e) h = record { below = h .below; apart = λ o. absurd (omega arith) }
   settled-with blocked (a-blocked a) h = record { below = h .below; apart = λ o. absurd (omega arith) }
-  settled-with successor (a-successor a) h = record { below = h .below; apart = λ o. absurd (omega arith) }
+  settled-with successor (a-successor a) h =
+      let r = in-row x s in record { below = rw (r .nodes) (h .below); apart = λ o. absurd (omega (arith, r .opener)) }
   settled-with startNode (a-start a) h = record { below = h .below; apart = λ o. absurd (omega arith) }
 
   same-with : (k : TableKind) → Step s w k → Settled s q → Same q kept (keptWithKind k s w p kept)
@@ -148,8 +149,8 @@ module _ (x : Index) (s : Seen) (w p : ℕ) (kept : Kept) (ws : List ℕ) (end :
   kept-with nodeBound n (a-bound e i j) f h =
       let r = h e in
       let one : 1 ≤ s .nodes = g .begun o in
-      let limit : s .nodes ≤ 64 = g .limit in
-      let room : 1600 ≤ length (kept .zones) = g .stores .zones in
+      let limit : s .nodes ≤ nodeCount = g .limit in
+      let room : nodeCount * 25 ≤ length (kept .zones) = g .stores .zones in
       let place : entryAt (end .nodes) (s .nodes - 1) .place ≡ suc p + length (leadingBounds ws) = r .place in
       record {
         location = r .location;
@@ -160,9 +161,9 @@ module _ (x : Index) (s : Seen) (w p : ℕ) (kept : Kept) (ws : List ℕ) (end :
       }
   kept-with value n (a-value e) f h =
       let one : 1 ≤ s .nodes = g .begun o in
-      let limit : s .nodes ≤ 64 = g .limit in
+      let limit : s .nodes ≤ nodeCount = g .limit in
       let location : s .location < 16 = g .location in
-      let room : 192 ≤ length (kept .nodes) = g .stores .nodes in
+      let room : nodeCount * 3 ≤ length (kept .nodes) = g .stores .nodes in
       let r = f (record { below = omega arith; apart = λ o. absurd (omega arith) }) in
       let entry = r .entry ∙ entry-here (entryOf (s .location) w p) (s .nodes - 1) (kept .nodes) (omega arith) (omega arith) (omega arith) in
       record {

@@ -13,6 +13,7 @@ use Rattle.model.specs.Grammar.{tableFollows, numbered?, mayFollow?, tableFollo
 use Rattle.model.specs.declared.index.Index.{Index}
 use Rattle.table.specs.Fields.{fields?}
 use Rattle.table.specs.Reading.{limit?}
+use Rattle.table.specs.Nodes.{nodeCount}
 use Rattle.table.specs.Scan.{lastFault, seenWith}
 use Rattle.table.specs.declared.seen.Seen.{Seen}
 use Rattle.table.specs.declared.seen.Fault.the-variants as fault
@@ -28,7 +29,7 @@ pub record Inside (s : Seen) : Type 0 where
 -- what a word without a fault says of what was seen before it and, if it is a bound, of its clocks, by its kind
 pub data Step (s : Seen) (w : ℕ) : TableKind → Type 0 where
   a-head : s .opener ≡ tableNumber noKind → Step s w tableHead
-  a-node : Inside s → s .nodes < 64 → Step s w node
+  a-node : Inside s → s .nodes < nodeCount → Step s w node
   a-bound : s .opener ≡ tableNumber node → boundOf w .i < 5 → boundOf w .j < 5 → Step s w nodeBound
   a-value : s .opener ≡ tableNumber node → Step s w value
   a-blocked : Inside s → Step s w blocked

@@ -1,5 +1,5 @@
 -- Algorithm: one pass over a table's words, and what it leaves for judging. Assumes nothing.
-use Prim.Native.Nat.{ℕ, suc, _-_, _≤_}
+use Prim.Native.Nat.{ℕ, suc, _-_, _*_, _≤_}
 use mathlib.Core.Bool.{not, cond, _||_}
 use mathlib.Core.List.{List, [], _∷_}
 use lib.IntN.{ℤ}
@@ -10,7 +10,7 @@ use Rattle.zone.specs.Stores.{putAt, withWordAt}
 use Rattle.model.specs.TableKinds.{TableKind, noKind, tableHead, node, nodeBound, value, blocked, successor, startNode, isTable, tableKindOf}
 use Rattle.model.specs.declared.index.Index.{Index}
 use Rattle.table.specs.Fields.{numberOf}
-use Rattle.table.specs.Nodes.{entryOf, putEntry}
+use Rattle.table.specs.Nodes.{nodeCount, entryOf, putEntry}
 use Rattle.table.specs.Scan.{nothing, faultAt, lastFault, seenWith}
 use Rattle.table.specs.declared.seen.Seen.{Seen}
 use Rattle.table.specs.declared.seen.Fault.{Fault}
@@ -28,10 +28,10 @@ pub record Kept : Type 0 where
 abbrev pub keep : List ℕ → List ℤ → Kept
 keep ns zs = record { nodes = ns; zones = zs }
 
--- the stores have room for 64 nodes, of three numbers and of 25 keys
+-- the stores have room for the most nodes a table has: three numbers and 25 keys to a node
 pub record StoresFit (ns : List ℕ) (zs : List ℤ) : Type 0 where
-  pub nodes : 192 ≤ length ns
-  pub zones : 1600 ≤ length zs
+  pub nodes : nodeCount * 3 ≤ length ns
+  pub zones : nodeCount * 25 ≤ length zs
 
 -- with the word w, of a kind, at the place p behind words that come to s: a node puts every valuation at its slot, a bound goes to the zone of
 -- the last node, and a value completes what is kept of it

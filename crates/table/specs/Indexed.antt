@@ -13,7 +13,7 @@ use Rattle.model.specs.Index.{Kept as ModelKept}
 use Rattle.model.specs.declared.index.Index.{Index}
 use Rattle.table.specs.Table.{Node, Table, tableOf}
 use Rattle.table.specs.Reading.{readChecks, tableAnswer}
-use Rattle.table.specs.Nodes.{entryAt}
+use Rattle.table.specs.Nodes.{nodeCount, entryAt}
 use Rattle.table.specs.Index.{Kept, keep}
 use Rattle.table.specs.declared.read.TableRead.{TableRead}
 use Rattle.table.specs.declared.read.TableAnswer.the-variants as answer
@@ -27,7 +27,7 @@ pub record NodeIs (k : Kept) (n : ℕ) (N : Node) : Type 0 where
 pub record TableIndexed (W : Table) (t : TableRead) (k : Kept) : Type 0 where
   pub whole : t .whole ≡ W .whole
   pub count : t .count ≡ length (W .nodes)
-  pub limit : t .count ≤ 64
+  pub limit : t .count ≤ nodeCount
   pub each : Each (NodeIs k) 0 (W .nodes)
   pub start : t .start ≡ W .start
   pub place : t .place ≡ W .place

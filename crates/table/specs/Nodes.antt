@@ -1,9 +1,13 @@
 -- Algorithm: nodes in a store of numbers, three to a node: its location, its value, and the index of its value word. Assumes nothing.
-use Prim.Native.Nat.{ℕ, _+_, _*_, _%_, _^_, _≤_, _<_}
+use Prim.Native.Nat.{ℕ, _+_, _*_, _%_, _^_, _≤_}
 use mathlib.Core.List.{List}
 use lib.ListN.{length, getD, set}
 use Rattle.table.specs.Fields.{valueOf}
 use Rattle.table.specs.declared.nodes.NodeEntry.{NodeEntry}
+
+-- how many nodes a table has at most
+abbrev pub nodeCount : ℕ
+nodeCount = 64
 
 -- what is kept of a node at the location l, from its value word w at the place p
 abbrev pub entryOf : ℕ → ℕ → ℕ → NodeEntry
@@ -17,7 +21,6 @@ entryAt ns n =
 unfoldable pub putEntry : NodeEntry → ℕ → List ℕ → List ℕ
 putEntry N n ns = set (set (set ns (n * 3) (N .location)) (n * 3 + 1) (N .value)) (n * 3 + 2) (N .place)
 
--- the store has a node of that number; the limit keeps every index in the code's range
+-- the store has a node of that number
 pub record HasNode (n : ℕ) (ns : List ℕ) : Type 0 where
-  pub number : n < 64
   pub room : n * 3 + 3 ≤ length ns

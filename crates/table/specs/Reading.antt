@@ -25,7 +25,8 @@ lastLocation [] = 0
 lastLocation (w ∷ ws) = cond (isTable node w) (locationOf w) (lastLocation ws)
 
 -- the actions of the last node whose row is not complete, each by the number of its edges, how many B words stand in the first such row, and
--- behind a value whether the node's location is a target
+-- behind a value whether the node's location is a target. No check reads `target` yet: it is for document 02, card 1, where a word may stand
+-- in place of a node's rows if its location is no target
 pub record Due : Type 0 where
   pub rows : List ℕ
   pub begun : ℕ
@@ -49,8 +50,7 @@ dueAfterRow d = record { rows = drop 1 (d .rows); begun = 0; target = d .target 
 -- a B completes a row where it is the last of its action's edges
 unfoldable pub dueAfterSuccessor : Due → Due
 dueAfterSuccessor d =
-    let done : Bool = eqb (suc (d .begun)) (getD (d .rows) 0 0) in
-    record { rows = cond done (drop 1 (d .rows)) (d .rows); begun = cond done 0 (suc (d .begun)); target = d .target }
+    cond (eqb (suc (d .begun)) (getD (d .rows) 0 0)) (dueAfterRow d) (record { rows = d .rows; begun = suc (d .begun); target = d .target })
 
 -- with a word of a kind more, behind a node of the location l
 unfoldable pub dueWith : TableKind → Model → ℕ → Due → Due

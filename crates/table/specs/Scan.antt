@@ -12,6 +12,7 @@ use Rattle.model.specs.Openers.{tableOpener?}
 use Rattle.model.specs.declared.index.Index.{Index}
 use Rattle.table.specs.Fields.{wholeOf, locationOf, numberOf, fields?}
 use Rattle.table.specs.Reading.{limit?}
+use Rattle.table.specs.Nodes.{nodeCount}
 use Rattle.table.specs.declared.seen.Seen.{Seen}
 use Rattle.table.specs.declared.seen.Fault.{Fault}
 use Rattle.table.specs.declared.seen.Fault.the-variants as fault
@@ -159,23 +160,26 @@ withRow x s o =
       place = s .place;
     }
 
--- a successor completes a row where it is the last of its B words
-abbrev pub withSuccessor : Index → Seen → Seen
-withSuccessor x s =
-    let done : Bool = eqb (s .begun + 1) (s .size) in
+-- a successor that is not the last of its row
+abbrev pub withBegun : Seen → Seen
+withBegun s =
     record {
       opener = tableNumber successor;
       whole = s .whole;
       nodes = s .nodes;
       location = s .location;
       target = s .target;
-      action = cond done (s .action + 1) (s .action);
-      rows = cond done (s .rows - 1) (s .rows);
-      size = cond done (sizeAt x (s .action + 1) (s .rows - 1)) (s .size);
-      begun = cond done 0 (s .begun + 1);
+      action = s .action;
+      rows = s .rows;
+      size = s .size;
+      begun = s .begun + 1;
       start = s .start;
       place = s .place;
     }
+
+-- a successor completes a row where it is the last of its B words
+abbrev pub withSuccessor : Index → Seen → Seen
+withSuccessor x s = cond (eqb (s .begun + 1) (s .size)) (withRow x s (tableNumber successor)) (withBegun s)
 
 abbrev pub withStart : Seen → ℕ → ℕ → Seen
 withStart s w p =
@@ -228,17 +232,17 @@ oneOf? ks n = numbered? tableNumber n ks
 
 pub record WithinLimits (x : Index) (s : Seen) : Type 0 where
   pub opener : tableOpener? (s .opener) ≡ true
-  pub nodes : s .nodes ≤ 64
+  pub nodes : s .nodes ≤ nodeCount
   -- where there is a node, its location exists
   pub node : oneOf? nodeOpeners (s .opener) ≡ true → (1 ≤ s .nodes) × (s .location < x .locations)
-  -- a row that is due lacks some word
+  -- where a row is due there is a node, and the row lacks some word
   pub begun : 1 ≤ s .rows → (oneOf? nodeOpeners (s .opener) ≡ true) × (s .begun < s .size)
   pub size : s .size ≤ 128
   pub action : s .action + s .rows ≤ 32
-  -- the rows behind it are those of actions of the last node's location
+  -- the rows behind the first that is due are those of actions of the last node's location
   pub rows : 2 ≤ s .rows → (firstRow x (s .location) ≤ s .action) × (s .action + s .rows ≤ endRow x (s .location))
 
 -- what the size of a row asks: the actions of the rows that are due have places in the index, and the edges of the first end behind its start
-pub record RowFits (x : Index) (a rows : ℕ) : Type 0 where
+pub record SizeAsked (x : Index) (a rows : ℕ) : Type 0 where
   pub action : a + rows ≤ 32
   pub edges : 1 ≤ rows → getD (x .edges) a 0 ≤ getD (x .edges) (a + 1) 0

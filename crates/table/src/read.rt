@@ -1,7 +1,7 @@
 // Reading a table against a model: refusals 11 to 14, and what judging needs of a table whose words are good.
 ghost use mathlib.Core.Path.{_≡_};
 ghost use Rattle.table.specs.Scan.{IndexFits};
-ghost use Rattle.table.specs.Index.{StoresFit, numbersAnswer, answerOf};
+ghost use Rattle.table.specs.Index.{keep, StoresFit, scanned, numbersAnswer, answerOf, readOf};
 ghost use Rattle.table.specs.Indexed.{ReadFor};
 use crate::fields;
 use crate::scan;
@@ -64,7 +64,9 @@ pub(crate) fn answer_of(fault: Fault, place: usize, list: &[u32], nodes: usize) 
 // Reads a table against a model of that index, and keeps in lent stores what judging needs of it.
 pub fn index_table(index: Index, list: &[u32], nodes: &mut [usize], zones: &mut [i32]) -> TableRead
     requires { ⌜ IndexFits index × StoresFit (now nodes) (now zones) ⌝ }
-    ensures { λ r. ⌜ ReadFor index (now (list .entry)) r (now (nodes .exit)) (now (zones .exit)) ⌝ }
+    ensures computes { λ r. ⌜ r ≡ readOf (scanned index (now (list .entry)) (now (nodes .entry)) (now (zones .entry))) (now (list .entry)) ⌝ }
+    ensures leaves { λ r. ⌜ keep (now (nodes .exit)) (now (zones .exit)) ≡ scanned index (now (list .entry)) (now (nodes .entry)) (now (zones .entry)) .kept ⌝ }
+    ensures reads { λ r. ⌜ ReadFor index (now (list .entry)) r (now (nodes .exit)) (now (zones .exit)) ⌝ }
 {
     let scanned = scan::scan(index, list, nodes, zones);
     let seen = scanned.seen;

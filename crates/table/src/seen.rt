@@ -6,7 +6,7 @@ ghost use Rattle.model.specs.TableKinds.{nodeBound, tableNumber};
 ghost use Rattle.model.specs.Grammar.{tableFollows?};
 ghost use Rattle.table.specs.Scan.{rowsAllowAt?, fieldsAt?, limitAt?, faultAt, lastFault};
 ghost use Rattle.table.specs.Scan.{withHead, withNode, withValue, withRow, withSuccessor, withStart, seenWith};
-ghost use Rattle.table.specs.Scan.{rowsAt, sizeAt, RowFits, IndexFits, WithinLimits};
+ghost use Rattle.table.specs.Scan.{rowsAt, sizeAt, SizeAsked, IndexFits, WithinLimits};
 ghost use Rattle.table.specs.declared.seen.Fault.the-variants as fault;
 use crate::fields;
 use model::index::Index;
@@ -48,8 +48,8 @@ pub(crate) fn rows_at(index: Index, location: usize) -> usize
 }
 
 // How many successors the row of an action has, one per edge; 0 where no row is due.
-pub(crate) fn row_size(index: Index, action: usize, rows: usize) -> usize
-    requires { ⌜ RowFits index action rows ⌝ }
+pub(crate) fn size_at(index: Index, action: usize, rows: usize) -> usize
+    requires { ⌜ SizeAsked index action rows ⌝ }
     ensures { λ r. ⌜ r ≡ sizeAt index action rows ⌝ }
 {
     if rows == 0 {
@@ -191,14 +191,14 @@ impl Seen {
         next.target = index.targets[l];
         next.action = first;
         next.rows = rows;
-        next.size = row_size(index, first, rows);
+        next.size = size_at(index, first, rows);
         next.begun = 0;
         next
     }
 
     // With the last word of a row, of that kind: the next action's row is due, if any.
     pub(crate) fn with_row(self, index: Index, kind: u32) -> Seen
-        requires { ⌜ (1 ≤ self .rows) × RowFits index (self .action + 1) (self .rows - 1) ⌝ }
+        requires { ⌜ (1 ≤ self .rows) × SizeAsked index (self .action + 1) (self .rows - 1) ⌝ }
         ensures { λ r. ⌜ r ≡ withRow index self kind ⌝ }
     {
         let action = self.action + 1;
@@ -207,14 +207,14 @@ impl Seen {
         next.opener = kind;
         next.action = action;
         next.rows = rows;
-        next.size = row_size(index, action, rows);
+        next.size = size_at(index, action, rows);
         next.begun = 0;
         next
     }
 
     // With a successor.
     pub(crate) fn with_successor(self, index: Index) -> Seen
-        requires { ⌜ (1 ≤ self .rows) × RowFits index (self .action + 1) (self .rows - 1) × (self .begun < self .size) × (self .size ≤ 128) ⌝ }
+        requires { ⌜ (1 ≤ self .rows) × SizeAsked index (self .action + 1) (self .rows - 1) × (self .begun < self .size) × (self .size ≤ 128) ⌝ }
         ensures { λ r. ⌜ r ≡ withSuccessor index self ⌝ }
     {
         if self.begun + 1 == self.size {

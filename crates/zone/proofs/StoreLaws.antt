@@ -13,7 +13,7 @@ use Rattle.zone.specs.Words.{boundOf}
 use Rattle.zone.specs.Cells.{tighterOf, pastEnd}
 use Rattle.zone.specs.Squares.{universe, withBound}
 use Rattle.zone.specs.Reading.{cellOf, withWord}
-use Rattle.zone.specs.Stores.{boundAt, zoneAt, putBelow, putAt, wordIndex, withWordAt, HasSlot}
+use Rattle.zone.specs.Stores.{boundAt, zoneAt, putBelow, putAt, wordIndex, withWordAt}
 use Rattle.zone.specs.declared.bounds.Bound.{Bound as Cell}
 use Rattle.zone.specs.declared.zones.Zone.{Zone as Square}
 use Rattle.zone.proofs.Integers.{lt-or-ge}
@@ -105,9 +105,6 @@ module _ (z : Square) (slot : ℕ) (keys : List ℤ) where
       same-zone (putBelow 25 (z .cells) (slot * 25) keys) keys q
       (λ p l. below-apart (z .cells) (slot * 25) keys 25 (q * 25 + p) (λ n m. apart q slot p n d l m))
 
-  pub has-slot-put : (q : ℕ) → HasSlot q keys → HasSlot q (putAt z slot keys)
-  has-slot-put q h = let s = put-length in record { number = h .number; room = omega arith }
-
 pub universe-put : (slot : ℕ) (keys : List ℤ) → slot * 25 + 25 ≤ length keys → zoneAt (putAt universe slot keys) slot ≡ universe
 universe-put slot keys r = put-here universe slot keys universe-length r
 
@@ -148,9 +145,6 @@ module _ (w slot : ℕ) (keys : List ℤ) where
   pub word-length : length (withWordAt w slot keys) ≡ length keys
   unfolding withWordAt
   word-length = length-set keys (wordIndex w slot) _
-
-  pub has-slot-word : (q : ℕ) → HasSlot q keys → HasSlot q (withWordAt w slot keys)
-  has-slot-word q h = let s = word-length in record { number = h .number; room = omega arith }
 
   module _ (i : boundOf w .i < 5) (j : boundOf w .j < 5) where
     pub word-here : slot * 25 + 25 ≤ length keys → zoneAt (withWordAt w slot keys) slot ≡ withWord w (zoneAt keys slot)

@@ -1,5 +1,5 @@
 -- Algorithm: zones in a store of numbers, the keys of 25 bounds to a zone. Assumes nothing.
-use Prim.Native.Nat.{ℕ, zero, suc, _+_, _*_, _≤_, _<_}
+use Prim.Native.Nat.{ℕ, zero, suc, _+_, _*_, _≤_}
 use mathlib.Core.List.{List}
 use lib.ListN.{length, getD, set}
 use lib.IntN.{ℤ, pos}
@@ -34,7 +34,6 @@ wordIndex w slot = slot * 25 + (boundOf w .i * 5 + boundOf w .j)
 unfoldable pub withWordAt : ℕ → ℕ → List ℤ → List ℤ
 withWordAt w slot keys = set keys (wordIndex w slot) (tighterOf (boundAt keys (wordIndex w slot)) (cellOf (boundOf w)) .key)
 
--- the store has a slot of that number; the limit keeps every index in the code's range
+-- the store has a slot of that number
 pub record HasSlot (slot : ℕ) (keys : List ℤ) : Type 0 where
-  pub number : slot < 64
   pub room : slot * 25 + 25 ≤ length keys

@@ -62,7 +62,7 @@ model-room c =
 model-accepted : (c : tie.After-enum-told) → let m = read c in ModelAccepted (words m) (m .index-model .result) (edges m) (guards m)
 model-accepted c = record {
   reads = read c .index-model .ensures .0;
-  index = read c .index-model .ensures .1;
+  index = read c .index-model .ensures .1 .0;
   room = model-room (c .before .before);
   counts = _;
   accepts = c .enum-told .given .1;
@@ -126,7 +126,7 @@ returns-2 c =
     let t = c .before .before .before .before in
     let m = t .before .before .before .before in
     with-demands _ _ _
-    (words-refused _ _ _ _ (model-accepted m) (list (read m)) _ _ _ (t .index-table .ensures) _ (c .words-refused .ensures)
+    (words-refused _ _ _ _ (model-accepted m) (list (read m)) _ _ _ (t .index-table .ensures .1 .1) _ (c .words-refused .ensures)
     (λ q. miss (1 ∷ 2 ∷ 3 ∷ 4 ∷ []) 0 tt (rw q at (c .before .match2 .keys2))))
 
 enable-requires : tie.Need-enable-requires
@@ -141,7 +141,7 @@ walk-requires c κs =
     (λ (zs : List ℤ).
     WalkAsked (list m) (keep (m .index-model .result .index) (edges m) zs) (table (listed g)) (listed g .index-table .result .count))
     (sym (e .enable .ensures))
-    (asked _ _ _ _ (model-accepted (told g)) (list m) _ _ _ (listed g .index-table .ensures) (g .enum-told2 .given .1)
+    (asked _ _ _ _ (model-accepted (told g)) (list m) _ _ _ (listed g .index-table .ensures .1 .1) (g .enum-told2 .given .1)
     (table-room (g .before .before)))
 
 returns-3 : tie.Need-returns-3
@@ -149,20 +149,20 @@ returns-3 c =
     let w = c .before .before in
     let g = good w in
     with-demands _ _ _
-    (node-refused _ _ _ _ (model-accepted (told g)) (list (read (told g))) _ _ _ (listed g .index-table .ensures) (g .enum-told2 .given .1) _
+    (node-refused _ _ _ _ (model-accepted (told g)) (list (read (told g))) _ _ _ (listed g .index-table .ensures .1 .1) (g .enum-told2 .given .1) _
     (subst (λ f. HandsOn (findingAnswer f) (verdictAnswer (c .node-refused .result))) (walks w) (c .node-refused .ensures))
     (λ q. miss (1 ∷ 2 ∷ 3 ∷ 4 ∷ 5 ∷ []) 0 tt (rw (walks w ∙ q) at (c .before .match3 .keys2))))
 
 load-requires : tie.Need-load-requires
 load-requires c κs =
     let g = good (c .before .before .before .before) in
-    start-node _ _ _ _ (model-accepted (told g)) (list (read (told g))) _ _ _ (listed g .index-table .ensures) (g .enum-told2 .given .1)
+    start-node _ _ _ _ (model-accepted (told g)) (list (read (told g))) _ _ _ (listed g .index-table .ensures .1 .1) (g .enum-told2 .given .1)
     (table-room (g .before .before))
 
 load-requires-2 : tie.Need-load-requires-2
 load-requires-2 c κs =
     let g = good (c .before .before .before .before .before .before) in
-    start-slot _ _ _ _ (model-accepted (told g)) (list (read (told g))) _ _ _ (listed g .index-table .ensures) (g .enum-told2 .given .1)
+    start-slot _ _ _ _ (model-accepted (told g)) (list (read (told g))) _ _ _ (listed g .index-table .ensures .1 .1) (g .enum-told2 .given .1)
     (table-room (g .before .before))
 
 returns-4 : tie.Need-returns-4
@@ -172,7 +172,7 @@ returns-4 c =
     let g = good w in
     with-demands _ _ _
     (subst (λ v. Judged (words (read (told g))) (list (read (told g))) (verdictAnswer v)) (sym (starts c))
-    (start-judged _ _ _ _ (model-accepted (told g)) (list (read (told g))) _ _ _ (listed g .index-table .ensures) (g .enum-told2 .given .1)
+    (start-judged _ _ _ _ (model-accepted (told g)) (list (read (told g))) _ _ _ (listed g .index-table .ensures .1 .1) (g .enum-told2 .given .1)
     (sym (walks w) ∙ none .enum-told3 .given .1)))
 
 pub judge-spec : {M : Type 1} → statement M

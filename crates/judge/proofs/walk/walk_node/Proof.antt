@@ -9,8 +9,10 @@ use borrow.Author.Needs.{needs}
 use types.Run.{miss}
 use lib.ListN.{length}
 use Rattle.zone.proofs.Sizes.{tightens-fewer}
-use Rattle.model.specs.Index.{Kept as ModelKept, keep}
-use Rattle.table.specs.Index.{Kept, keep as keepTable}
+use Rattle.model.specs.Scan.{zoneCount}
+use Rattle.model.specs.Index.{Kept as ModelKept, keep as keepModel}
+use Rattle.table.specs.Nodes.{nodeCount}
+use Rattle.table.specs.Index.{Kept as TableKept, keep as keepTable}
 use Rattle.judge.specs.Walk.{nodeFinding, NodeInRange}
 use Rattle.judge.proofs.WalkLaws.{product-small, AtRow, ReachAt, AtSuccessor, target-good, target-bad, no-rows, node-rows}
 use Rattle.judge.proofs.WalkLaws.{rows-end, row-asked, row-place, row-not-blocked, row-blocked, row-successors}
@@ -20,8 +22,8 @@ use Rattle.judge.proofs.walk.walk_node.Tie as tie
 
 abbrev Inv-loop : tie.InvT-loop
 Inv-loop list edges guards whole nodes zones n index node l first-action stop waited f₀ at₀ a reach empty blocked limit first sum₀ e₀ end f at sum e =
-    let m : ModelKept = keep index edges guards in
-    let k : Kept = keepTable nodes zones in
+    let m : ModelKept = keepModel index edges guards in
+    let k : TableKept = keepTable nodes zones in
     AtSuccessor list m k (nodeFinding list m k whole n) waited (node .value) stop a reach empty limit first end f at sum e
 
 abbrev μ-loop : tie.MeasureT-loop
@@ -29,8 +31,8 @@ abbrev μ-loop : tie.MeasureT-loop
 
 abbrev Inv-rows : tie.InvT-rows
 Inv-rows list edges guards whole nodes zones n index node l first-action stop waited f₀ at₀ a₀ f at a =
-    let m : ModelKept = keep index edges guards in
-    let k : Kept = keepTable nodes zones in
+    let m : ModelKept = keepModel index edges guards in
+    let k : TableKept = keepTable nodes zones in
     AtRow list m k (nodeFinding list m k whole n) waited (node .value) stop f at a
 
 abbrev μ-rows : tie.MeasureT-rows
@@ -65,9 +67,9 @@ abbrev rowTurn : SuccessorTurn → RowTurn
 rowTurn c = c .before .before .before .before .before .before .before .before .before .before .before
 
 abbrev model : Start → ModelKept
-model c = keep (c .args .t2) (c .args .edges .now) (c .args .guards .now)
+model c = keepModel (c .args .t2) (c .args .edges .now) (c .args .guards .now)
 
-abbrev table : Start → Kept
+abbrev table : Start → TableKept
 table c = keepTable (c .args .nodes .now) (c .args .zones .now)
 
 located : (c : Loaded) → c .load .result .location < 16
@@ -77,10 +79,10 @@ fits : (c : Other) → let s = start (loaded c) in NodeInRange (s .args .list .n
 fits c = start (loaded c) .pre .node (rw (← loaded c .load .ensures) (c .if1 .left))
 
 -- a slot of the model's zones is there
-guards-room : (c : Start) → 49 * 25 ≤ length (c .args .guards .now)
+guards-room : (c : Start) → zoneCount * 25 ≤ length (c .args .guards .now)
 guards-room c = c .pre .stores .model .zones
 
-zones-room : (c : Start) → 1600 ≤ length (c .args .zones .now)
+zones-room : (c : Start) → nodeCount * 25 ≤ length (c .args .zones .now)
 zones-room c = c .pre .stores .table .zones
 
 -- the reach of a row

@@ -65,7 +65,7 @@ has-slot : (c : tie.After-enum-told Inv-loop μ-loop) (slot : ℕ) → slot < zo
 has-slot c slot h =
     let same = turn (checked c) .loop .inv .4 in
     let room = turn (checked c) .before .before .before .pre .zones in
-    record { number = omega arith; room = omega arith }
+    record { room = omega arith }
 
 -- where the kinds meet: what is kept with the word
 joined :
@@ -77,10 +77,12 @@ joined c =
     let k = c .before .before in
     ⊎-elim
     (λ w.
-    kept-same (rw (← w .1 .ensures) (w .9)) (w .7) (w .8 ∙ put-same _ _ (w .3 .ensures) (w .5 .ensures))
+    kept-same (w .8 ∙ w .1 .ensures) (w .6) (w .7 ∙ put-same _ _ (w .2 .ensures) (w .4 .ensures))
     ∙ kept-step _ _ _ location (named k 2 (w .0 .keys1)))
     (⊎-elim
-    (λ w. kept-same (w .8) (w .6) (w .7 ∙ put-same _ _ (w .2 .ensures) (w .4 .ensures)) ∙ kept-step _ _ _ action (named k 3 (w .0 .keys2)))
+    (λ w.
+    kept-same (w .9 ∙ w .1 .ensures) (w .7) (w .8 ∙ put-same _ _ (w .2 .ensures) (w .5 .ensures))
+    ∙ kept-step _ _ _ action (named k 3 (w .0 .keys2)))
     (⊎-elim
     (λ w. kept-same (w .3) (w .1) (w .2) ∙ kept-step _ _ _ edge (named k 4 (w .0 .keys3)))
     (⊎-elim
@@ -109,15 +111,16 @@ fault-requires c κs =
     (here .inv .1, model-looked-up (here .inv .5) _ few (here .inv .1 .opener) ∙ ap (follows? (here .seen .opener)) (read .kind-of .ensures))
 
 same-length : tie.Need-same-length Inv-loop μ-loop
-same-length c = turn (c .before) .loop .inv .3
+same-length c = turn (c .before .before) .loop .inv .3
 
 same-length-2 : tie.Need-same-length-2 Inv-loop μ-loop
-same-length-2 c = turn (c .before) .loop .inv .4
+same-length-2 c = turn (c .before .before) .loop .inv .4
 
 returns : tie.Need-returns Inv-loop μ-loop
 returns c =
-    let here = turn (c .before) .loop in
-    scan-stop _ (here .at) _ _ (omega arith) _ (c .before .fault .ensures) (faulty c) ∙ sym (here .inv .2)
+    let told = c .before in
+    let here = turn (told .before) .loop in
+    rw (c .at .ensures) (scan-stop _ (here .at) _ _ (omega arith) _ (told .before .fault .ensures) (faulty told) ∙ sym (here .inv .2))
 
 add-bound-requires : tie.Need-add-bound-requires Inv-loop μ-loop
 add-bound-requires c κs =
@@ -137,21 +140,28 @@ loop-again c =
     (kept-same refl refl (c .before .add-bound .ensures) ∙ kept-step _ _ _ bound e) in
     (go .0, go .1, go .2, go .3 .edges ∙ inv .3, go .3 .zones ∙ inv .4, inv .5)
 
-element-write-index : tie.Need-element-write-index Inv-loop μ-loop
-element-write-index c =
-    let k = c .before .before .before in
-    room-location _ _ (within k) (sound k) (named k 2 (c .before .match2 .keys1))
+with-location-requires : tie.Need-with-location-requires Inv-loop μ-loop
+with-location-requires c κs =
+    let k = c .before .before in
+    (room-location _ _ (within k) (sound k) (named k 2 (c .match2 .keys1)), within k .actions)
 
 put-requires : tie.Need-put-requires Inv-loop μ-loop
 put-requires c κs =
-    let k = c .before .before .before .before .before .before in
-    let few = room-location _ _ (within k) (sound k) (named k 2 (c .before .before .before .before .match2 .keys1)) in
+    let k = c .before .before .before .before .before in
+    let few = room-location _ _ (within k) (sound k) (named k 2 (c .before .before .before .match2 .keys1)) in
     has-slot k _ (omega arith)
+
+with-action-requires : tie.Need-with-action-requires Inv-loop μ-loop
+with-action-requires c κs =
+    let k = c .before .before in
+    let actions = within k .actions in
+    let edges = within k .edges in
+    (actions, omega arith)
 
 put-requires-2 : tie.Need-put-requires-2 Inv-loop μ-loop
 put-requires-2 c κs =
-    let k = c .before .before .before .before .before in
-    let few = room-action _ _ (within k) (sound k) (named k 3 (c .before .before .before .match2 .keys2)) in
+    let k = c .before .before .before .before .before .before in
+    let few = room-action _ _ (within k) (sound k) (named k 3 (c .before .before .before .before .match2 .keys2)) in
     has-slot k _ (omega arith)
 
 slice-write-edges : tie.Need-slice-write-edges Inv-loop μ-loop
@@ -174,23 +184,24 @@ loop-again-2 c =
     (go .0, go .1, go .2, go .3 .edges ∙ inv .3, go .3 .zones ∙ inv .4, inv .5)
 
 same-length-3 : tie.Need-same-length-3 Inv-loop μ-loop
-same-length-3 c = c .before .before .before .loop .inv .3
+same-length-3 c = c .before .before .before .before .loop .inv .3
 
 same-length-4 : tie.Need-same-length-4 Inv-loop μ-loop
-same-length-4 c = c .before .before .before .loop .inv .4
+same-length-4 c = c .before .before .before .before .loop .inv .4
 
 returns-2 : tie.Need-returns-2 Inv-loop μ-loop
 returns-2 c =
-    let here = c .before .before .before .loop in
-    rw (c .before .last-fault .ensures, c .closed .ensures)
-    (scan-end _ (here .at) _ _ (here .inv .0) (c .before .before .loop-test .left) ∙ sym (here .inv .2))
+    let last = c .before .before in
+    let here = last .before .before .loop in
+    rw (c .at2 .ensures, last .last-fault .ensures, c .before .closed .ensures)
+    (scan-end _ (here .at) _ _ (here .inv .0) (last .before .loop-test .left) ∙ sym (here .inv .2))
 
 pub scan-spec : {M : Type 1} → statement M
 scan-spec =
     tie.close
     (tie.spec Inv-loop μ-loop loop-holds (λ c. search needs) (λ c. search needs) (λ c κs. search needs) (λ c. search needs) (λ c. search needs)
-    (λ c. search needs) index-1-allowed (λ c. search needs) fault-requires (λ c. search needs) same-length same-length-2 returns add-bound-requires
-    (λ c. search needs) (λ c. search needs) loop-again (λ c κs. search needs) element-write-index (λ c. search needs) (λ c. search needs)
-    (λ c κs. search needs) put-requires (λ c. search needs) (λ c. search needs) (λ c κs. search needs) (λ c. search needs) put-requires-2
-    (λ c. search needs) slice-write-edges (λ c κs. search needs) put-requires-3 (λ c κs. search needs) (λ c. search needs) (λ c. search needs)
-    loop-again-2 (λ c κs. search needs) (λ c κs. search needs) same-length-3 same-length-4 returns-2)
+    (λ c. search needs) index-1-allowed (λ c. search needs) fault-requires (λ c. search needs) (λ c κs. search needs) same-length same-length-2
+    returns add-bound-requires (λ c. search needs) (λ c. search needs) loop-again with-location-requires (λ c κs. search needs) put-requires
+    with-action-requires (λ c κs. search needs) (λ c. search needs) put-requires-2 (λ c. search needs) slice-write-edges (λ c κs. search needs)
+    put-requires-3 (λ c κs. search needs) (λ c. search needs) (λ c. search needs) loop-again-2 (λ c κs. search needs) (λ c κs. search needs)
+    (λ c κs. search needs) same-length-3 same-length-4 returns-2)

@@ -10,7 +10,7 @@ use lib.ListN.{length, drop, getD}
 use Rattle.zone.specs.Words.{kind, boundOf}
 use Rattle.zone.specs.Squares.{all?}
 use Rattle.zone.specs.Stores.{putAt}
-use Rattle.model.specs.TableKinds.{nodeBound}
+use Rattle.model.specs.TableKinds.{TableKind, node, nodeBound, value, tableNumber}
 use Rattle.model.specs.Grammar.{follows, tableFollows, numbered?, mayFollow?, follows?, tableFollows?}
 use Rattle.model.specs.declared.index.Index.{Index}
 use Rattle.model.proofs.KindLaws.{FollowsTable, table-opener-row, table-looked-up}
@@ -69,11 +69,15 @@ within c = turn (checked c) .loop .inv .1
 sound : (c : tie.After-enum-told Inv-loop μ-loop) → faultAt (seen c) (index c .clocks) (index c .locations) (word (checked c)) ≡ fault.None
 sound c = sym (checked c .fault .ensures) ∙ c .enum-told .given .1
 
-named : (c : tie.After-enum-told Inv-loop μ-loop) (n : ℕ) → read c .kind-of .result ≡ n → kind (word (checked c)) ≡ n
-named c n e = sym (read c .kind-of .ensures) ∙ e
+named :
+    (c : tie.After-enum-told Inv-loop μ-loop) (k : TableKind) → read c .kind-of .result ≡ tableNumber k →
+    kind (word (checked c)) ≡ tableNumber k
+named c k e = sym (read c .kind-of .ensures) ∙ e
 
-other : (c : tie.After-enum-told Inv-loop μ-loop) (n : ℕ) → (read c .kind-of .result ≡ n → ⊥) → kind (word (checked c)) ≡ n → ⊥
-other c n h q = h (read c .kind-of .ensures ∙ q)
+other :
+    (c : tie.After-enum-told Inv-loop μ-loop) (k : TableKind) → (read c .kind-of .result ≡ tableNumber k → ⊥) →
+    kind (word (checked c)) ≡ tableNumber k → ⊥
+other c k h q = h (read c .kind-of .ensures ∙ q)
 
 loop-holds : tie.Need-loop-holds Inv-loop μ-loop
 unfolding scanned follows tableFollows numbered? mayFollow? follows? tableFollows? all?
@@ -106,7 +110,7 @@ returns c =
 bounded :
     (c : tie.Then1 Inv-loop μ-loop) → let w = word (checked (c .before)) in
     (1 ≤ seen (c .before) .nodes) × (boundOf w .i < 5) × (boundOf w .j < 5)
-bounded c = let k = c .before in bound-asks _ _ _ (fits k) (within k) (sound k) (named k 5 (c .if1 .taken))
+bounded c = let k = c .before in bound-asks _ _ _ (fits k) (within k) (sound k) (named k nodeBound (c .if1 .taken))
 
 sub-add-bound : tie.Need-sub-add-bound Inv-loop μ-loop
 sub-add-bound c = bounded (c .before .before) .0
@@ -124,7 +128,7 @@ unfolding seenWithKind
 loop-again c =
     let k = c .before .before .before .before .before in
     let here = turn (checked k) .loop in
-    let e = named k 5 (c .before .before .before .before .if1 .taken) in
+    let e = named k nodeBound (c .before .before .before .before .if1 .taken) in
     let go = scan-go _ _ _ _ _ (omega arith) (fits k) (here .inv .1) (here .inv .2) (here .inv .3) (here .inv .4) (sound k)
     (seen-step _ _ _ _ nodeBound e) (kept-bound _ _ _ _ _ e refl (c .before .add-bound .ensures)) in
     (go .0, go .1, go .2, go .3, go .4, here .inv .5)
@@ -133,12 +137,12 @@ put-requires : tie.Need-put-requires Inv-loop μ-loop
 put-requires c κs =
     let k = c .before .before .before .before in
     let here = turn (checked k) .loop in
-    has-slot (node-room _ _ _ (fits k) (within k) (sound k) (named k 8 (c .before .before .match2 .keys1))) (here .inv .3)
+    has-slot (node-room _ _ _ (fits k) (within k) (sound k) (named k node (c .before .before .match2 .keys1))) (here .inv .3)
     (began (turn (checked k)) .pre .1 .zones)
 
 -- a value stands behind a node
 valued : (c : tie.At-match2-keys2 Inv-loop μ-loop) → 1 ≤ seen (c .before .before) .nodes
-valued c = let k = c .before .before in value-node _ _ _ (fits k) (within k) (sound k) (named k 9 (c .match2 .keys2)) .0
+valued c = let k = c .before .before in value-node _ _ _ (fits k) (within k) (sound k) (named k value (c .match2 .keys2)) .0
 
 sub-put : tie.Need-sub-put Inv-loop μ-loop
 sub-put c = valued (c .before .before .before)
@@ -161,10 +165,11 @@ joined :
 joined c =
     let k = c .before .before in
     ⊎-elim
-    (λ w. kept-node _ _ _ _ _ (named k 8 (w .0 .keys1)) (w .5) (w .6 ∙ w .3 .ensures ∙ ap (λ z. putAt z _ _) (w .1 .ensures)))
+    (λ w. kept-node _ _ _ _ _ (named k node (w .0 .keys1)) (w .5) (w .6 ∙ w .3 .ensures ∙ ap (λ z. putAt z _ _) (w .1 .ensures)))
     (⊎-elim
-    (λ w. kept-value _ _ _ _ _ (named k 9 (w .0 .keys2)) (w .7 ∙ w .4 .ensures ∙ ap (λ N. putEntry N _ _) (w .1 .ensures)) (w .8))
-    (λ w. kept-other _ _ _ _ _ (other k 5 (c .before .if1 .left)) (other k 8 (w .0 .rest .0 .1)) (other k 9 (w .0 .rest .1)) (w .1) (w .2)))
+    (λ w. kept-value _ _ _ _ _ (named k value (w .0 .keys2)) (w .7 ∙ w .4 .ensures ∙ ap (λ N. putEntry N _ _) (w .1 .ensures)) (w .8))
+    (λ w. kept-other _ _ _ _ _ (other k nodeBound (c .before .if1 .left)) (other k node (w .0 .rest .0 .1)) (other k value (w .0 .rest .1)) (w .1)
+    (w .2)))
     (c .match2 .came)
 
 loop-again-2 : tie.Need-loop-again-2 Inv-loop μ-loop

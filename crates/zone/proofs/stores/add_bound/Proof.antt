@@ -1,5 +1,4 @@
 -- Proof of `add_bound`: what is stored is the key of the tighter bound.
-use mathlib.Core.Path.{_≡_}
 use borrow.Author.Needs.{needs}
 use mir.Facts.{toZ-ofZ}
 use Rattle.zone.proofs.StoreLaws.{bound, word-set}

@@ -27,7 +27,7 @@ unfolding fields?
 returns-4 c = c .edge-fields .ensures ∙ fields-at _ _ edge cc
 
 returns-5 : tie.Need-returns-5
-returns-5 c = c .bound-fields .ensures
+returns-5 c = c .bound-fields .ensures ∙ fields-at _ _ bound cc
 
 returns-6 : tie.Need-returns-6
 unfolding fields?

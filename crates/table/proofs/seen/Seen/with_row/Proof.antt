@@ -4,7 +4,7 @@ use Rattle.table.proofs.seen.Seen.with_row.Statement.{statement}
 use Rattle.table.proofs.seen.Seen.with_row.Tie as tie
 
 returns : tie.Need-returns
-returns c = rw (c .row-size .ensures)
+returns c = rw (c .size-at .ensures)
 
 pub with-row-spec : {M : Type 1} → statement M
 with-row-spec = tie.close (tie.spec (λ c. search needs) (λ c. search needs) (λ c κs. search needs) returns)

@@ -6,8 +6,8 @@ use borrow.Author.Needs.{needs}
 use lib.ListN.{length, drop}
 use Rattle.model.specs.Index.{firstMissing}
 use Rattle.model.proofs.ScanLaws.{missing-end, missing-here, missing-later}
-use Rattle.model.proofs.index.first_missing.Statement.{statement}
-use Rattle.model.proofs.index.first_missing.Tie as tie
+use Rattle.model.proofs.read.first_missing.Statement.{statement}
+use Rattle.model.proofs.read.first_missing.Tie as tie
 
 abbrev Inv-loop : tie.InvT-loop
 Inv-loop list locations at₀ at-end at = (at ≤ length list) × (firstMissing locations 0 list ≡ firstMissing locations at (drop at list))
