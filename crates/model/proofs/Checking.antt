@@ -32,7 +32,7 @@ use Rattle.model.proofs.Limits.{Passes, passes, firstFault}
 
 -- the numbers of what stands before; `before` lists those words, the last one first
 pub record Tallies (before : List ℕ) (s : Seen) : Type 0 where
-  pub opener : s .opener ≡ openerFrom 0 before
+  pub opener : s .opener ≡ openerFrom (number none) before
   pub locations : s .locations ≡ countOf (number location) before
   pub actions : s .actions ≡ countOf (number action) before
   pub edges : s .edges ≡ countOf (number edge) before
@@ -58,23 +58,23 @@ agrees-nothing C D = record { tallies = omega arith; headed = inl refl }
 
 -- what a word of the kind with the number n adds
 record Added (n : ℕ) (before : List ℕ) (w : ℕ) : Type 0 where
-  opener : openerFrom 0 (w ∷ before) ≡ cond (eqb n 5) (openerFrom 0 before) n
-  locations : countOf (number location) (w ∷ before) ≡ cond (eqb n 2) 1 0 + countOf (number location) before
-  actions : countOf (number action) (w ∷ before) ≡ cond (eqb n 3) 1 0 + countOf (number action) before
-  edges : countOf (number edge) (w ∷ before) ≡ cond (eqb n 4) 1 0 + countOf (number edge) before
-  run : length (lastEdges (w ∷ before)) ≡ cond (eqb n 4) (suc (length (lastEdges before))) 0
-  weights : weights (lastEdges (w ∷ before)) ≡ cond (eqb n 4) (weightOf w + weights (lastEdges before)) 0
+  opener : openerFrom (number none) (w ∷ before) ≡ cond (eqb n (number bound)) (openerFrom (number none) before) n
+  locations : countOf (number location) (w ∷ before) ≡ cond (eqb n (number location)) 1 0 + countOf (number location) before
+  actions : countOf (number action) (w ∷ before) ≡ cond (eqb n (number action)) 1 0 + countOf (number action) before
+  edges : countOf (number edge) (w ∷ before) ≡ cond (eqb n (number edge)) 1 0 + countOf (number edge) before
+  run : length (lastEdges (w ∷ before)) ≡ cond (eqb n (number edge)) (suc (length (lastEdges before))) 0
+  weights : weights (lastEdges (w ∷ before)) ≡ cond (eqb n (number edge)) (weightOf w + weights (lastEdges before)) 0
 
-added : (n : ℕ) (before : List ℕ) (w : ℕ) → kind w ≡ n → Added n before w
+added : (k : Kind) (before : List ℕ) (w : ℕ) → kind w ≡ number k → Added (number k) before w
 unfolding openerFrom countOf lastEdges weights
-added n before w e =
+added k before w e =
     record {
       opener = rw e;
       locations = rw e;
       actions = rw e;
       edges = rw e;
-      run = rw e (by-bool (eqb n 4) length);
-      weights = rw e (by-bool (eqb n 4) weights);
+      run = rw e (by-bool (eqb (number k) (number edge)) length);
+      weights = rw e (by-bool (eqb (number k) (number edge)) weights);
     }
   where
     by-bool : (c : Bool) (f : List ℕ → ℕ) → f (cond c (w ∷ lastEdges before) []) ≡ cond c (f (w ∷ lastEdges before)) (f [])
@@ -82,56 +82,57 @@ added n before w e =
     by-bool false f = refl
 
 -- edges of the last action stand only behind an opener that is an edge
-no-edges : (before : List ℕ) → (openerFrom 0 before ≡ 4 → ⊥) → lastEdges before ≡ []
+no-edges : (before : List ℕ) → openerFrom (number none) before ≢ number edge → lastEdges before ≡ []
 unfolding lastEdges
 no-edges [] h = refl
-no-edges (w ∷ before) h = by-bool (is edge w) λ e. h (added 4 before w (eqb-true (kind w) 4 e) .opener)
+no-edges (w ∷ before) h = by-bool (is edge w) λ e. h (added edge before w (eqb-true (kind w) (number edge) e) .opener)
   where
     by-bool : (c : Bool) → (c ≡ true → ⊥) → cond c (w ∷ lastEdges before) [] ≡ []
     by-bool true f = absurd (f refl)
     by-bool false f = refl
 
-no-run : (before : List ℕ) → (openerFrom 0 before ≡ 4 → ⊥) → (length (lastEdges before) ≡ 0) × (weights (lastEdges before) ≡ 0)
+no-run : (before : List ℕ) → openerFrom (number none) before ≢ number edge → (length (lastEdges before) ≡ 0) × (weights (lastEdges before) ≡ 0)
 unfolding weights
 no-run before h = (ap length (no-edges before h), ap weights (no-edges before h))
 
 -- the word is the first and a head, or the head stands before it
 pub data Begins (C D : ℕ) (before : List ℕ) (s : Seen) (n : ℕ) : Type 0 where
-  here : before ≡ [] → s .opener ≡ 0 → n ≡ 1 → Begins C D before s n
-  there : Headed C D s → (n ≡ 1 → ⊥) → Begins C D before s n
+  here : before ≡ [] → s .opener ≡ number none → n ≡ number head → Begins C D before s n
+  there : Headed C D s → n ≢ number head → Begins C D before s n
 
 pub begins : (C D : ℕ) (before : List ℕ) (s : Seen) (n : ℕ) → Agrees C D before s → follows? (s .opener) n ≡ true → Begins C D before s n
 unfolding openerFrom
 begins C D before s n a f = by (a .headed)
   where
-    same : eqb (s .opener) 0 ≡ eqb n 1
+    same : eqb (s .opener) (number none) ≡ eqb n (number head)
     same = head-first (s .opener) n f
 
     by : (before ≡ []) ⊎ Headed C D s → Begins C D before s n
     by (inl e) =
-        let o : s .opener ≡ 0 = a .tallies .opener ∙ ap (openerFrom 0) e in here e o (eqb-true n 1 (sym same ∙ eq-eqb (s .opener) 0 o))
+        let o : s .opener ≡ number none = a .tallies .opener ∙ ap (openerFrom (number none)) e in
+        here e o (eqb-true n (number head) (sym same ∙ eq-eqb (s .opener) (number none) o))
     by (inr h) =
-        let apart : eqb (s .opener) 0 ≡ false = ne-eqb (s .opener) 0 (h .opened) in
-        there h λ e. true-false (sym (eq-eqb n 1 e) ∙ sym same ∙ apart)
+        let apart : eqb (s .opener) (number none) ≡ false = ne-eqb (s .opener) (number none) (h .opened) in
+        there h λ e. true-false (sym (eq-eqb n (number head) e) ∙ sym same ∙ apart)
 
 tallies-kind : (k : Kind) (before : List ℕ) (s : Seen) (w p : ℕ) → Tallies before s → Passes k s w → Tallies (w ∷ before) (seenWithKind k s w p)
 unfolding fields? seenWithKind
 tallies-kind none before s w p h g = false-true (g .fields)
 tallies-kind head before s w p h g =
-    let first : s .opener ≡ 0 = eqb-true (s .opener) 0 (head-first (s .opener) 1 (g .follows)) in
+    let first : s .opener ≡ number none = eqb-true (s .opener) (number none) (head-first (s .opener) (number head) (g .follows)) in
     let zero = no-run before (λ e. omega arith) in
-    let a = added 1 before w (g .named) in
+    let a = added head before w (g .named) in
     omega arith
-tallies-kind location before s w p h g = let a = added 2 before w (g .named) in omega arith
-tallies-kind action before s w p h g = let a = added 3 before w (g .named) in omega arith
-tallies-kind edge before s w p h g = let a = added 4 before w (g .named) in omega arith
+tallies-kind location before s w p h g = let a = added location before w (g .named) in omega arith
+tallies-kind action before s w p h g = let a = added action before w (g .named) in omega arith
+tallies-kind edge before s w p h g = let a = added edge before w (g .named) in omega arith
 tallies-kind bound before s w p h g =
     let zero = no-run before (λ e. before-bound (s .opener) (g .follows) (h .opener ∙ e)) in
-    let a = added 5 before w (g .named) in
+    let a = added bound before w (g .named) in
     omega arith
-tallies-kind start before s w p h g = let a = added 6 before w (g .named) in omega arith
+tallies-kind start before s w p h g = let a = added start before w (g .named) in omega arith
 
-pub head-before : {C D : ℕ} {before : List ℕ} {s : Seen} {n : ℕ} → Begins C D before s n → (n ≡ 1 → ⊥) → Headed C D s
+pub head-before : {C D : ℕ} {before : List ℕ} {s : Seen} {n : ℕ} → Begins C D before s n → n ≢ number head → Headed C D s
 head-before (here e o n) m = absurd (m n)
 head-before (there h n) m = h
 
@@ -169,23 +170,23 @@ agrees-with C D before s w p a f first =
 -- the four tests on a word behind the words before
 module _ (C D : ℕ) (before : List ℕ) (w : ℕ) where
   abbrev kind? : Bool
-  kind? = follows? (openerFrom 0 before) (kind w)
+  kind? = follows? (openerFrom (number none) before) (kind w)
 
   abbrev field? : Bool
-  field? = fields? (kindOf w) C D (countOf (number location) before) (openerFrom 0 before) w
+  field? = fields? (kindOf w) C D (countOf (number location) before) (openerFrom (number none) before) w
 
   abbrev under? : Bool
   under? = limit? (kindOf w) (countOf (number location) before) (countOf (number action) before) (length (lastEdges before))
 
   abbrev sum? : Bool
-  sum? = adds? D (openerFrom 0 before) (weights (lastEdges before)) w
+  sum? = adds? D (openerFrom (number none) before) (weights (lastEdges before)) w
 
 same-tests :
     (C D : ℕ) (before : List ℕ) (s : Seen) (w : ℕ) → Tallies before s → Begins C D before s (kind w) →
     (fieldsAt? s w ≡ field? C D before w) × (addsAt? s w ≡ sum? C D before w)
 unfolding fieldsAt? addsAt? fields? adds?
 same-tests C D before s w t (here e o n) =
-    let o′ : openerFrom 0 before ≡ 0 = sym (t .opener) ∙ o in (rw (kind-is head w n), rw (o, o′))
+    let o′ : openerFrom (number none) before ≡ number none = sym (t .opener) ∙ o in (rw (kind-is head w n), rw (o, o′))
 same-tests C D before s w t (there h n) = (cc, cc)
 
 same-fault :
@@ -243,7 +244,7 @@ words-from :
     First (wordsChecks C D before words ++ more) P (answered whole (scanFrom s k (length before) words))
 unfolding scanFrom wordsChecks wordChecks lastFault
 words-from C D before [] s k a first more P whole h =
-    last-first more P whole (eqb (openerFrom 0 before) 6) (lastFault s) (rw (a .tallies .opener)) (length before) h
+    last-first more P whole (eqb (openerFrom (number none) before) (number start)) (lastFault s) (rw (a .tallies .opener)) (length before) h
 words-from C D before (w ∷ ws) s k a first more P whole h =
     let p : ℕ = length before in
     let go : Pass = scanFrom (seenWith s w p) (keptWith s w k) (suc p) ws in

@@ -1,7 +1,7 @@
 -- What the pass counts, and where the start stands. Assumes nothing.
 use Prim.Native.Nat.{ℕ, suc, _+_, _<_}
 use mathlib.Core.Path.{_≡_, refl, ap, _∙_}
-use mathlib.Core.Logic.{_⊎_, inl, inr}
+use mathlib.Core.Logic.{_⊎_, inl, inr, _≢_}
 use mathlib.Core.Bool.{true, false}
 use mathlib.Core.List.{List, [], _∷_, reverseAux}
 use native.Mathlib.Omega.{arith}
@@ -45,11 +45,11 @@ unfolding countOf
 count-reversed n words = count-onto n words [] ∙ omega arith
 
 -- a pass without a fault ends behind the start
-pub ends : (s : Seen) → lastFault s ≡ fault.None → s .opener ≡ 6
+pub ends : (s : Seen) → lastFault s ≡ fault.None → s .opener ≡ number start
 unfolding lastFault
-ends s h = eqb-true (s .opener) 6 (all-pass (eqb (s .opener) 6) true true true h .0)
+ends s h = eqb-true (s .opener) (number start) (all-pass (eqb (s .opener) (number start)) true true true h .0)
 
-run-ends : (s : Seen) (p : ℕ) (words : List ℕ) → Run s p words → seenEnd s p words .opener ≡ 6
+run-ends : (s : Seen) (p : ℕ) (words : List ℕ) → Run s p words → seenEnd s p words .opener ≡ number start
 unfolding seenEnd
 run-ends s p [] r = ends s r
 run-ends s p (w ∷ ws) r = run-ends (seenWith s w p) (suc p) ws (r .1)
@@ -57,12 +57,12 @@ run-ends s p (w ∷ ws) r = run-ends (seenWith s w p) (suc p) ws (r .1)
 -- ---- the start
 
 -- behind the start only a bound may stand, and it changes nothing
-bound-stays : (s : Seen) (w p : ℕ) → s .opener ≡ 6 → faultAt s w ≡ fault.None → seenWith s w p ≡ s
+bound-stays : (s : Seen) (w p : ℕ) → s .opener ≡ number start → faultAt s w ≡ fault.None → seenWith s w p ≡ s
 unfolding seenWith seenWithKind
 bound-stays s w p o f =
     let g = passes s w f in rw (kind-is bound w (g .named ∙ after-start (number (kindOf w)) (rw o at (g .follows))))
 
-start-stays : (s : Seen) (p : ℕ) (words : List ℕ) → s .opener ≡ 6 → Run s p words → seenEnd s p words ≡ s
+start-stays : (s : Seen) (p : ℕ) (words : List ℕ) → s .opener ≡ number start → Run s p words → seenEnd s p words ≡ s
 unfolding seenEnd
 start-stays s p [] o r = refl
 start-stays s p (w ∷ ws) o r =
@@ -76,10 +76,10 @@ record Started (s : Seen) (n : ℕ) : Type 0 where
 
 -- with the word w at the place p the words come to `next`: it is the start, or the start is still to come
 data Starts (w p : ℕ) (next : Seen) : Type 0 where
-  now : kind w ≡ 6 → next .opener ≡ 6 → Started next p → Starts w p next
-  later : is start w ≡ false → (next .opener ≡ 6 → ⊥) → Starts w p next
+  now : kind w ≡ number start → next .opener ≡ number start → Started next p → Starts w p next
+  later : is start w ≡ false → next .opener ≢ number start → Starts w p next
 
-starts : (k : Kind) (s : Seen) (w p : ℕ) → Passes k s w → (s .opener ≡ 6 → ⊥) → Starts w p (seenWithKind k s w p)
+starts : (k : Kind) (s : Seen) (w p : ℕ) → Passes k s w → s .opener ≢ number start → Starts w p (seenWithKind k s w p)
 unfolding fields? seenWithKind
 starts none s w p g o = false-true (g .fields)
 starts head s w p g o = later (rw (g .named)) λ e. omega arith
@@ -92,13 +92,14 @@ starts start s w p g o =
 
 started-with :
     (w p : ℕ) (ws : List ℕ) (next : Seen) → Starts w p next → Run next (suc p) ws →
-    ((next .opener ≡ 6 → ⊥) → Started (seenEnd next (suc p) ws) (suc p + indexOf (number start) ws)) →
+    (next .opener ≢ number start → Started (seenEnd next (suc p) ws) (suc p + indexOf (number start) ws)) →
     Started (seenEnd next (suc p) ws) (p + indexOf (number start) (w ∷ ws))
 unfolding indexOf
 started-with w p ws next (now k o h) r rest = rw (start-stays next (suc p) ws o r, k) (omega arith)
 started-with w p ws next (later n o) r rest = let h = rest o in rw n (omega arith)
 
-started : (s : Seen) (p : ℕ) (words : List ℕ) → (s .opener ≡ 6 → ⊥) → Run s p words → Started (seenEnd s p words) (p + indexOf (number start) words)
+started : (s : Seen) (p : ℕ) (words : List ℕ) → s .opener ≢ number start → Run s p words →
+    Started (seenEnd s p words) (p + indexOf (number start) words)
 unfolding seenEnd seenWith
 started s p [] o r = absurd (o (ends s r))
 started s p (w ∷ ws) o r =
@@ -112,14 +113,21 @@ module _ (words : List ℕ) (r : Run nothing 0 words) where
   pub counts-end : countsAt (seenEnd nothing 0 words) ≡ countsOf words
   counts-end =
       let t = agrees .tallies in
-      rw (t .locations, t .actions, t .edges, count-reversed 2 words, count-reversed 3 words, count-reversed 4 words)
+      rw (
+        t .locations,
+        t .actions,
+        t .edges,
+        count-reversed (number location) words,
+        count-reversed (number action) words,
+        count-reversed (number edge) words,
+      )
 
   pub headed : Headed (clocksOf (getD words 0 0)) (denominatorOf (getD words 0 0)) (seenEnd nothing 0 words)
   unfolding openerFrom
   headed = by (agrees .headed)
     where
       by : {X : Type 0} → (reverseAux words [] ≡ []) ⊎ X → X
-      by (inl e) = absurd (omega (arith, run-ends nothing 0 words r, agrees .tallies .opener, ap (openerFrom 0) e))
+      by (inl e) = absurd (omega (arith, run-ends nothing 0 words r, agrees .tallies .opener, ap (openerFrom (number none)) e))
       by (inr h) = h
 
   begun : Started (seenEnd nothing 0 words) (0 + indexOf (number start) words)

@@ -9,7 +9,7 @@ use borrow.Author.Tests.{eqb-true, ltb-true, lt-ltb, ltb-false}
 use lib.Dec.{ltb}
 use Rattle.zone.specs.Words.{kind}
 use Rattle.zone.specs.Checks.{Check, test, First}
-use Rattle.model.specs.Kinds.{Kind, none, head, location, action, edge, bound, start, is, kindOf}
+use Rattle.model.specs.Kinds.{Kind, none, head, location, action, edge, bound, start, number, is, kindOf}
 use Rattle.model.specs.Fields.{landsAt}
 use Rattle.model.specs.Reading.{edgeChecks, modelAnswer}
 use Rattle.model.specs.Scan.{nothing, seenWith, seenWithKind}
@@ -86,7 +86,7 @@ none-missing L s p (w ∷ ws) h =
   where
     by : (b : Bool) → is edge w ≡ b → (not b || ltb (landsAt w) L) ≡ true
     by true e =
-        let here = named s w p (kind-is edge w (eqb-true (kind w) 4 e)) in
+        let here = named s w p (kind-is edge w (eqb-true (kind w) (number edge) e)) in
         let rest = furthest-end (seenWith s w p) (suc p) ws in
         lt-ltb (landsAt w) L (omega arith)
     by false e = refl

@@ -58,7 +58,7 @@ good-with start w P b g = record { bounds = empty; actions = empty; locations = 
 -- a bound that passes the checks
 bound-good : (s : Seen) (w : ℕ) → WithinLimits s → faultAt s w ≡ fault.None → kindOf w ≡ bound → GoodBound (boundOf w)
 bound-good s w h f e =
-    let named : kind w ≡ 5 = passes s w f .named ∙ ap number e in
+    let named : kind w ≡ number bound = passes s w f .named ∙ ap number e in
     let b : is bound w ≡ true = rw named in
     good-word (s .clocks) w (h .clocks) (good-bound s w h f b)
 

@@ -14,7 +14,7 @@ use Rattle.zone.specs.Squares.{universe}
 use Rattle.zone.specs.Stores.{zoneAt}
 use Rattle.zone.proofs.Bools.{false-true}
 use Rattle.zone.proofs.StoreLaws.{universe-put}
-use Rattle.model.specs.Kinds.{Kind, none, head, location, action, edge, bound, start, kindOf}
+use Rattle.model.specs.Kinds.{Kind, none, head, location, action, edge, bound, start, number, kindOf}
 use Rattle.model.specs.Grammar.{follows, numbered?, mayFollow?, follows?}
 use Rattle.model.specs.Fields.{target?}
 use Rattle.model.specs.Model.{Edge, Action, Location, Parts, edgeOf, partsWith, partsOf, modelOf}
@@ -40,8 +40,8 @@ record Describes (e : Kept) (s : Seen) (P : Parts) : Type 0 where
   actions-limit : getD (e .index .actions) (s .locations) 0 ≤ 32
   edges : Each (EdgeAt e) (s .edges) (P .edges)
   edges-end : getD (e .index .edges) (s .actions) 0 ≡ s .edges + length (P .edges)
-  start : s .opener ≢ 6 → e .index .start ≡ P .start
-  startBounds : s .opener ≢ 6 → zoneAt (e .zones) startBoundsAt ≡ withBounds (P .startBounds) universe
+  startBounds : s .opener ≢ number start → zoneAt (e .zones) startBoundsAt ≡ withBounds (P .startBounds) universe
+  start : s .opener ≢ number start → e .index .start ≡ P .start
 
 -- what holds of what is kept while no check has failed
 record Good (s : Seen) (m : Kept) : Type 0 where
@@ -55,8 +55,8 @@ good-with k s m w p g = record { sized = sized-with k s w m (g .sized); opened =
 record Rest (e : Kept) (f s : Seen) (m : Kept) (P : Parts) : Type 0 where
   kept : Lasts s m e
   own : Bounded s → zoneAt (e .zones) (s .slot) ≡ withBounds (P .bounds) (zoneAt (m .zones) (s .slot))
-  free : s .opener ≡ 2 → P .edges ≡ []
-  last : s .opener ≡ 6 → Last P s f
+  free : s .opener ≡ number location → P .edges ≡ []
+  last : s .opener ≡ number start → Last P s f
   starts : e .index .start ≡ f .start
 
 module _ (e : Kept) (f s : Seen) (m : Kept) (w p : ℕ) (P : Parts) (h : WithinLimits s) (g : Good s m) where

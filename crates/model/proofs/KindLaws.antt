@@ -1,6 +1,7 @@
 -- Laws of the kinds of words, and of what may follow what. Assumes nothing.
 use Prim.Native.Nat.{ℕ, _<_}
 use mathlib.Core.Path.{_≡_, refl, sym, _∙_}
+use mathlib.Core.Logic.{_≢_}
 use mathlib.Core.Bool.{Bool, true, false, not, cond, _&&_, _||_}
 use mathlib.Core.List.{List, [], _∷_}
 use borrow.Author.Tests.{eqb-true, ltb-true}
@@ -41,10 +42,10 @@ pub by-kind : (P : Kind → Type 0) (w : ℕ) → P none → ((k : Kind) → kin
 unfolding kindOf
 by-kind P w n f = by-among number none P w kinds n f
 
--- a word with none of the numbers 1 to 6 is of no kind
+-- a word that has the number of none of the six kinds is of no kind
 pub no-kind :
-    (w : ℕ) → (kind w ≡ 1 → ⊥) → (kind w ≡ 2 → ⊥) → (kind w ≡ 3 → ⊥) → (kind w ≡ 4 → ⊥) → (kind w ≡ 5 → ⊥) → (kind w ≡ 6 → ⊥) →
-    kindOf w ≡ none
+    (w : ℕ) → kind w ≢ number head → kind w ≢ number location → kind w ≢ number action → kind w ≢ number edge → kind w ≢ number bound →
+    kind w ≢ number start → kindOf w ≡ none
 no-kind w h l a e b s = by-kind (λ (k : Kind). k ≡ none) w refl other
   where
     other : (k : Kind) → kind w ≡ number k → k ≡ none
@@ -150,9 +151,10 @@ module _ {rows : List (List Bool)} (t : FollowsTable rows) (o : ℕ) {n : ℕ} (
   table-looked-up h = looked-up (table-opener-row o h) ∙ table-follows o n h
 
 -- a head stands first, and nothing else does
-pub head-first : (o n : ℕ) → follows? o n ≡ true → eqb o 0 ≡ eqb n 1
+pub head-first : (o n : ℕ) → follows? o n ≡ true → eqb o (number none) ≡ eqb n (number head)
 unfolding follows
-head-first o n h = same (eqb o 0) (eqb n 1) (is-true _ (table (λ o n. same? (eqb o 0) (eqb n 1)) tt o n h))
+head-first o n h =
+    same (eqb o (number none)) (eqb n (number head)) (is-true _ (table (λ o n. same? (eqb o (number none)) (eqb n (number head))) tt o n h))
 
 -- behind what an edge follows, an edge may follow
 pub before-edge : (o : ℕ) → follows? o (number edge) ≡ true → edgeMayFollow? o ≡ true
@@ -169,11 +171,11 @@ behind-edges o n h m e b = eqb-true o (number edge) (rw (m, e, b) at (is-true (l
     last? o n = not (edgeMayFollow? o) || eqb n (number edge) || eqb n (number bound) || eqb o (number edge)
 
 -- a bound follows no edge
-pub before-bound : (o : ℕ) → follows? o 5 ≡ true → o ≡ 4 → ⊥
+pub before-bound : (o : ℕ) → follows? o (number bound) ≡ true → o ≢ number edge
 unfolding follows
-before-bound o h e = rw e at (table (λ o n. not (eqb n 5) || not (eqb o 4)) tt o 5 h)
+before-bound o h e = rw e at (table (λ o n. not (eqb n (number bound)) || not (eqb o (number edge))) tt o (number bound) h)
 
 -- only a bound follows the start
-pub after-start : (n : ℕ) → follows? 6 n ≡ true → n ≡ 5
+pub after-start : (n : ℕ) → follows? (number start) n ≡ true → n ≡ number bound
 unfolding follows
-after-start n h = eqb→eq n 5 (table (λ o n. not (eqb o 6) || eqb n 5) tt 6 n h)
+after-start n h = eqb→eq n (number bound) (table (λ o n. not (eqb o (number start)) || eqb n (number bound)) tt (number start) n h)

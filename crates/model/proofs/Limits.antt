@@ -136,15 +136,15 @@ limits-scanned words es zs = limits-from nothing (keep emptyIndex es zs) 0 words
 -- ---- what a word that fails no check says
 module _ (s : Seen) (w : ℕ) (h : WithinLimits s) (f : faultAt s w ≡ fault.None) where
   -- there is room for it
-  pub room-location : kind w ≡ 2 → s .locations < 16
+  pub room-location : kind w ≡ number location → s .locations < 16
   unfolding limit?
   room-location e = ltb-true _ _ (passes-as location s w e f .limit)
 
-  pub room-action : kind w ≡ 3 → s .actions < 32
+  pub room-action : kind w ≡ number action → s .actions < 32
   unfolding limit?
   room-action e = ltb-true _ _ (passes-as action s w e f .limit)
 
-  pub room-edge : kind w ≡ 4 → s .edges < 128
+  pub room-edge : kind w ≡ number edge → s .edges < 128
   room-edge e = let room = edge-room s w h (passes-as edge s w e f) in omega arith
 
   -- a bound is good

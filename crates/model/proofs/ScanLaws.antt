@@ -1,7 +1,7 @@
 -- Laws of the pass over the words: what a turn of the loop comes to. Assumes nothing.
 use Prim.Native.Nat.{ℕ, _+_, _≤_, _<_}
 use mathlib.Core.Path.{_≡_, refl, sym, ap, _∙_}
-use mathlib.Core.Logic.{_⊎_, inl, inr}
+use mathlib.Core.Logic.{_⊎_, inl, inr, _≢_}
 use mathlib.Core.Bool.{Bool, true, false, not, _&&_, _||_}
 use mathlib.Core.List.{List}
 use native.Mathlib.Numerals.{add-one}
@@ -41,7 +41,9 @@ module _ (s : Seen) (w : ℕ) where
   kept-step m k e = rw (kind-is k w e)
 
   -- nothing, where it is of another kind than these
-  pub seen-stays : (p : ℕ) → (kind w ≡ 1 → ⊥) → (kind w ≡ 2 → ⊥) → (kind w ≡ 3 → ⊥) → (kind w ≡ 4 → ⊥) → (kind w ≡ 6 → ⊥) → s ≡ seenWith s w p
+  pub seen-stays :
+      (p : ℕ) → kind w ≢ number head → kind w ≢ number location → kind w ≢ number action → kind w ≢ number edge → kind w ≢ number start →
+      s ≡ seenWith s w p
   unfolding seenWith seenWithKind
   seen-stays p h l a e t = by-kind (λ (k : Kind). s ≡ seenWithKind k s w p) w refl at
     where
@@ -54,7 +56,9 @@ module _ (s : Seen) (w : ℕ) where
       at bound q = refl
       at start q = absurd (t q)
 
-  pub kept-stays : (m : Kept) → (kind w ≡ 2 → ⊥) → (kind w ≡ 3 → ⊥) → (kind w ≡ 4 → ⊥) → (kind w ≡ 5 → ⊥) → (kind w ≡ 6 → ⊥) → m ≡ keptWith s w m
+  pub kept-stays :
+      (m : Kept) → kind w ≢ number location → kind w ≢ number action → kind w ≢ number edge → kind w ≢ number bound → kind w ≢ number start →
+      m ≡ keptWith s w m
   unfolding keptWith keptWithKind
   kept-stays m l a e b t = by-kind (λ (k : Kind). m ≡ keptWithKind k s w m) w refl at
     where

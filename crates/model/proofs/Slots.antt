@@ -35,9 +35,9 @@ same-with start s w p q m (a-start a) n = put-apart universe startBoundsAt (m .z
 
 -- ---- the slot of the opener, where a bound may follow
 pub data Opened (s : Seen) : Type 0 where
-  at-location : s .opener ≡ 2 → s .locations ≡ suc (s .slot) → Opened s
-  at-action : (a : ℕ) → s .opener ≡ 3 → s .actions ≡ suc a → s .slot ≡ guardsAt + a → Opened s
-  at-start : s .opener ≡ 6 → s .slot ≡ startBoundsAt → Opened s
+  at-location : s .opener ≡ number location → s .locations ≡ suc (s .slot) → Opened s
+  at-action : (a : ℕ) → s .opener ≡ number action → s .actions ≡ suc a → s .slot ≡ guardsAt + a → Opened s
+  at-start : s .opener ≡ number start → s .slot ≡ startBoundsAt → Opened s
   nowhere : (Bounded s → ⊥) → Opened s
 
 pub opened-with : (k : Kind) (s : Seen) (w p : ℕ) → Opened s → Opened (seenWithKind k s w p)
@@ -108,7 +108,7 @@ settled-end s p q m (w ∷ ws) r a =
 -- ---- the zone of an opener, once its bounds are read
 
 -- the slot of an opener that is not the start
-behind-slot : (s : Seen) → Opened s → Bounded s → s .opener ≢ 6 → Behind s (s .slot)
+behind-slot : (s : Seen) → Opened s → Bounded s → s .opener ≢ number start → Behind s (s .slot)
 behind-slot s (at-location e l) b n = past-location (omega arith)
 behind-slot s (at-action a e l i) b n = past-action a (omega arith) i
 behind-slot s (at-start e l) b n = absurd (n e)
@@ -119,7 +119,7 @@ module _
   where
     -- behind a word that is no bound, the slot of the opener before it is settled
     kept-own :
-        (k : Kind) → Step s w k → s .opener ≢ 6 → number k ≢ 5 →
+        (k : Kind) → Step s w k → s .opener ≢ number start → number k ≢ number bound →
         ((q : ℕ) → Settled (seenWithKind k s w p) q → zoneAt (end .zones) q ≡ zoneAt (keptWithKind k s w m .zones) q) →
         zoneAt (end .zones) (s .slot) ≡ zoneAt (m .zones) (s .slot)
     kept-own k t n d f =
@@ -133,10 +133,10 @@ module _
         (Bounded (seenWithKind k s w p) →
         zoneAt (end .zones) (seenWithKind k s w p .slot) ≡
         withBounds (P .bounds) (zoneAt (keptWithKind k s w m .zones) (seenWithKind k s w p .slot))) →
-        (seenWithKind k s w p .opener ≡ 4 → P .bounds ≡ []) →
+        (seenWithKind k s w p .opener ≡ number edge → P .bounds ≡ []) →
         zoneAt (end .zones) (s .slot) ≡ withBounds (partsWith k w P .bounds) (zoneAt (m .zones) (s .slot))
     unfolding seenWithKind keptWithKind partsWith withBounds withWord follows? mayFollow? numbered? follows
-    own-with head (a-head i) f own e = absurd (never (s .opener) 5 0 b refl i)
+    own-with head (a-head i) f own e = absurd (never (s .opener) bound none b refl i)
     own-with location (a-location n l) f own e = kept-own location (a-location n l) n (omega arith) f
     own-with action (an-action n l) f own e = kept-own action (an-action n l) n (omega arith) f
     own-with edge (an-edge n c l) f own e = rw (e refl) (kept-own edge (an-edge n c l) n (omega arith) f)

@@ -24,33 +24,33 @@ use Rattle.model.proofs.Limits.{Passes, passes, limits-with, room-locat
 abbrev pub Bounded : Seen → Type 0
 Bounded s = follows? (s .opener) (number bound) ≡ true
 
--- what a word w without a fault says of what was seen before it, by its kind; opener 0 is none, 2 a location, 4 an edge, 6 the start
+-- what a word w without a fault says of what was seen before it, by its kind
 pub data Step (s : Seen) (w : ℕ) : Kind → Type 0 where
-  a-head : s .opener ≡ 0 → Step s w head
-  a-location : s .opener ≢ 6 → s .locations < 16 → Step s w location
-  an-action : s .opener ≢ 6 → s .actions < 32 → Step s w action
-  an-edge : s .opener ≢ 6 → s .opener ≢ 2 → s .edges < 128 → Step s w edge
+  a-head : s .opener ≡ number none → Step s w head
+  a-location : s .opener ≢ number start → s .locations < 16 → Step s w location
+  an-action : s .opener ≢ number start → s .actions < 32 → Step s w action
+  an-edge : s .opener ≢ number start → s .opener ≢ number location → s .edges < 128 → Step s w edge
   a-bound : Bounded s → boundOf w .i < 5 → boundOf w .j < 5 → Step s w bound
-  a-start : s .opener ≢ 6 → Step s w start
+  a-start : s .opener ≢ number start → Step s w start
 
 -- an opener behind which a kind may not stand
-pub never : (o n m : ℕ) → follows? o n ≡ true → follows? m n ≡ false → o ≢ m
-never o n m h e q = false-true (sym e ∙ ap (λ (o : ℕ). follows? o n) (sym q) ∙ h)
+pub never : (o : ℕ) (n m : Kind) → follows? o (number n) ≡ true → follows? (number m) (number n) ≡ false → o ≢ number m
+never o n m h e q = false-true (sym e ∙ ap (λ (o : ℕ). follows? o (number n)) (sym q) ∙ h)
 
 step-of : (k : Kind) (s : Seen) (w : ℕ) → WithinLimits s → faultAt s w ≡ fault.None → Passes k s w → Step s w k
 unfolding fields? follows? mayFollow? numbered? follows
 step-of none s w h f g = false-true (g .fields)
-step-of head s w h f g = a-head (eqb-true (s .opener) 0 (head-first (s .opener) 1 (g .follows)))
-step-of location s w h f g = a-location (never (s .opener) 2 6 (g .follows) refl) (room-location s w h f (g .named))
-step-of action s w h f g = an-action (never (s .opener) 3 6 (g .follows) refl) (room-action s w h f (g .named))
+step-of head s w h f g = a-head (eqb-true (s .opener) (number none) (head-first (s .opener) (number head) (g .follows)))
+step-of location s w h f g = a-location (never (s .opener) location start (g .follows) refl) (room-location s w h f (g .named))
+step-of action s w h f g = an-action (never (s .opener) action start (g .follows) refl) (room-action s w h f (g .named))
 step-of edge s w h f g =
-    an-edge (never (s .opener) 4 6 (g .follows) refl) (never (s .opener) 4 2 (g .follows) refl) (room-edge s w h f (g .named))
-step-of bound s w h f g = let cell = bound-cell s w h f (eq-eqb (kind w) 5 (g .named)) in a-bound (g .follows) (cell .0) (cell .1)
-step-of start s w h f g = a-start (never (s .opener) 6 6 (g .follows) refl)
+    an-edge (never (s .opener) edge start (g .follows) refl) (never (s .opener) edge location (g .follows) refl) (room-edge s w h f (g .named))
+step-of bound s w h f g = let cell = bound-cell s w h f (eq-eqb (kind w) (number bound) (g .named)) in a-bound (g .follows) (cell .0) (cell .1)
+step-of start s w h f g = a-start (never (s .opener) start start (g .follows) refl)
 
 -- no word fails a check, and none is missing at the end; what was seen is within the limits all along
 abbrev pub Walk : Seen → ℕ → List ℕ → Type 0
-Walk s p [] = WithinLimits s × (s .opener ≡ 6)
+Walk s p [] = WithinLimits s × (s .opener ≡ number start)
 Walk s p (w ∷ ws) = WithinLimits s × (kind w ≡ number (kindOf w)) × Step s w (kindOf w) × Walk (seenWith s w p) (suc p) ws
 
 pub walk-of : (s : Seen) (p : ℕ) (ws : List ℕ) → WithinLimits s → Run s p ws → Walk s p ws
@@ -67,16 +67,18 @@ limits-end s p (w ∷ ws) r = limits-end (seenWith s w p) (suc p) ws (r .3)
 -- ---- what follows an opener
 
 module _ (s : Seen) (w p : ℕ) where
-  no-bound : (k : Kind) (P : Parts) → s .opener ≡ 4 → Step s w k → (seenWithKind k s w p .opener ≡ 4 → P .bounds ≡ []) → partsWith k w P .bounds ≡ []
+  no-bound : (k : Kind) (P : Parts) → s .opener ≡ number edge → Step s w k → (seenWithKind k s w p .opener ≡ number edge → P .bounds ≡ []) →
+      partsWith k w P .bounds ≡ []
   unfolding follows? mayFollow? numbered? follows seenWithKind partsWith
   no-bound head P e (a-head z) ih = absurd (omega arith)
   no-bound location P e (a-location n l) ih = refl
   no-bound action P e (an-action n l) ih = refl
   no-bound edge P e (an-edge n m l) ih = ih refl
-  no-bound bound P e (a-bound b i j) ih = absurd (never (s .opener) 5 4 b refl e)
+  no-bound bound P e (a-bound b i j) ih = absurd (never (s .opener) bound edge b refl e)
   no-bound start P e (a-start n) ih = refl
 
-  no-edge : (k : Kind) (P : Parts) → s .opener ≡ 2 → Step s w k → (seenWithKind k s w p .opener ≡ 2 → P .edges ≡ []) → partsWith k w P .edges ≡ []
+  no-edge : (k : Kind) (P : Parts) → s .opener ≡ number location → Step s w k →
+      (seenWithKind k s w p .opener ≡ number location → P .edges ≡ []) → partsWith k w P .edges ≡ []
   unfolding seenWithKind partsWith
   no-edge head P e (a-head z) ih = absurd (omega arith)
   no-edge location P e (a-location n l) ih = refl
@@ -86,13 +88,13 @@ module _ (s : Seen) (w p : ℕ) where
   no-edge start P e (a-start n) ih = refl
 
 -- an edge is not followed by bounds before the next opener
-pub no-bounds : (s : Seen) (p : ℕ) (ws : List ℕ) → Walk s p ws → s .opener ≡ 4 → partsOf ws .bounds ≡ []
+pub no-bounds : (s : Seen) (p : ℕ) (ws : List ℕ) → Walk s p ws → s .opener ≡ number edge → partsOf ws .bounds ≡ []
 unfolding partsOf seenWith
 no-bounds s p [] r e = refl
 no-bounds s p (w ∷ ws) r e = no-bound s w p (kindOf w) (partsOf ws) e (r .2) (no-bounds (seenWith s w p) (suc p) ws (r .3))
 
 -- nor a location by edges before the next opener
-pub no-edges : (s : Seen) (p : ℕ) (ws : List ℕ) → Walk s p ws → s .opener ≡ 2 → partsOf ws .edges ≡ []
+pub no-edges : (s : Seen) (p : ℕ) (ws : List ℕ) → Walk s p ws → s .opener ≡ number location → partsOf ws .edges ≡ []
 unfolding partsOf seenWith
 no-edges s p [] r e = refl
 no-edges s p (w ∷ ws) r e = no-edge s w p (kindOf w) (partsOf ws) e (r .2) (no-edges (seenWith s w p) (suc p) ws (r .3))
@@ -105,8 +107,8 @@ pub record Last (P : Parts) (s end : Seen) : Type 0 where
   pub start : end .start ≡ s .start
 
 last-with :
-    (s end : Seen) (w p : ℕ) (k : Kind) (P : Parts) → s .opener ≡ 6 → Step s w k →
-    (seenWithKind k s w p .opener ≡ 6 → Last P (seenWithKind k s w p) end) → Last (partsWith k w P) s end
+    (s end : Seen) (w p : ℕ) (k : Kind) (P : Parts) → s .opener ≡ number start → Step s w k →
+    (seenWithKind k s w p .opener ≡ number start → Last P (seenWithKind k s w p) end) → Last (partsWith k w P) s end
 unfolding seenWithKind partsWith
 last-with s end w p head P e (a-head z) ih = absurd (omega arith)
 last-with s end w p location P e (a-location n l) ih = absurd (n e)
@@ -117,7 +119,7 @@ last-with s end w p bound P e (a-bound b i j) ih =
     record { edges = r .edges; actions = r .actions; locations = r .locations; start = r .start }
 last-with s end w p start P e (a-start n) ih = absurd (n e)
 
-pub last-of : (s : Seen) (p : ℕ) (ws : List ℕ) → Walk s p ws → s .opener ≡ 6 → Last (partsOf ws) s (seenEnd s p ws)
+pub last-of : (s : Seen) (p : ℕ) (ws : List ℕ) → Walk s p ws → s .opener ≡ number start → Last (partsOf ws) s (seenEnd s p ws)
 unfolding partsOf seenEnd seenWith
 last-of s p [] r e = record { edges = refl; actions = refl; locations = refl; start = refl }
 last-of s p (w ∷ ws) r e =

@@ -1,6 +1,7 @@
 -- What holds of every accepted model: its numbers, the locations that its edges lead to, and their weights. Assumes nothing.
 use Prim.Native.Nat.{ℕ, suc, _+_, _*_, _/_, _^_, _≤_, _<_}
 use mathlib.Core.Path.{_≡_, refl, sym, ap, subst, _∙_}
+use mathlib.Core.Logic.{_≢_}
 use mathlib.Core.Bool.{true, false, not, _&&_, _||_}
 use mathlib.Core.List.{List, [], _∷_}
 use native.Mathlib.Nat.{div-lt-iff-lt-mul}
@@ -86,11 +87,11 @@ mask-below m C h =
 
 module _ (M : Model) (positive : 1 ≤ M .denominator) where
   module _ (before : List ℕ) (s : Seen) (w p : ℕ) (P : Parts) (h : WithinLimits s) (a : Agrees (M .clocks) (M .denominator) before s) where
-    behind : (k : Kind) → Passes k s w → (number k ≡ 1 → ⊥) → Headed (M .clocks) (M .denominator) s
+    behind : (k : Kind) → Passes k s w → number k ≢ number head → Headed (M .clocks) (M .denominator) s
     behind k g n = head-before (begins (M .clocks) (M .denominator) before s (number k) a (g .follows)) n
 
     -- a word behind the edges of an action: their weights add to the denominator
-    ended : (k : Kind) → Passes k s w → (number k ≡ 1 → ⊥) → eqb (number k) (number edge) ≡ false → eqb (number k) (number bound) ≡ false →
+    ended : (k : Kind) → Passes k s w → number k ≢ number head → eqb (number k) (number edge) ≡ false → eqb (number k) (number bound) ≡ false →
         edgeMayFollow? (s .opener) ≡ true → s .weights ≡ M .denominator
     unfolding addsAt? adds?
     ended k g n e b m =
@@ -114,7 +115,7 @@ module _ (M : Model) (positive : 1 ≤ M .denominator) where
     unfolding fields? seenWithKind partsWith weigh numbered?
     formed-with none g l f = false-true (g .fields)
     formed-with head g l f =
-        let first : s .opener ≡ 0 = eqb-true (s .opener) 0 (head-first (s .opener) 1 (g .follows)) in
+        let first : s .opener ≡ number none = eqb-true (s .opener) (number none) (head-first (s .opener) (number head) (g .follows)) in
         record {
           edges = f .edges;
           weights = λ i. false-true (rw first at i);
@@ -163,7 +164,9 @@ module _ (M : Model) (positive : 1 ≤ M .denominator) where
 
   -- 5, of a word that passes the checks before
   lands : (L w : ℕ) → T (not (is edge w) || ltb (landsAt w) L) → kind w ≡ number (kindOf w) → kindOf w ≡ edge → landsAt w < L
-  lands L w t e k = let e : kind w ≡ 4 = e ∙ ap number k in ltb-true (landsAt w) L (rw e at (is-true (not (is edge w) || ltb (landsAt w) L) t))
+  lands L w t e k =
+      let e : kind w ≡ number edge = e ∙ ap number k in
+      ltb-true (landsAt w) L (rw e at (is-true (not (is edge w) || ltb (landsAt w) L) t))
 
   formed-from :
       (before : List ℕ) (s : Seen) (p : ℕ) (ws : List ℕ) → WithinLimits s → Agrees (M .clocks) (M .denominator) before s →
@@ -186,7 +189,8 @@ unfolding fields?
 first-head [] r = absurd (omega (arith, ends nothing r))
 first-head (w ∷ ws) r =
     let g = passes nothing w (r .0) in
-    let named : kind w ≡ 1 = g .named ∙ eqb-true (number (kindOf w)) 1 (sym (head-first 0 (number (kindOf w)) (g .follows))) in
+    let named : kind w ≡ number head =
+    g .named ∙ eqb-true (number (kindOf w)) (number head) (sym (head-first (number none) (number (kindOf w)) (g .follows))) in
     passes-as head nothing w named (r .0) .fields
 
 pub well-formed : (words : List ℕ) → Run nothing 0 words → AllHold (edgeChecks (countOf (number location) words) 0 words) → WellFormed (modelOf words)

@@ -1,6 +1,7 @@
 -- Laws of the checks on a word, by its kind. Assumes nothing.
 use Prim.Native.Nat.{ℕ}
 use mathlib.Core.Path.{_≡_, refl, sym, _∙_}
+use mathlib.Core.Logic.{_≢_}
 use mathlib.Core.Bool.{Bool, true, false, not}
 use borrow.Author.Tests.{not-true, not-false, ne-eqb}
 use Rattle.zone.specs.Words.{kind}
@@ -30,7 +31,7 @@ module _ (s : Seen) (w : ℕ) where
   limit-at k e = rw (kind-is k w e)
 
   -- a word that is no location, action or edge is within each limit
-  pub no-limit : (kind w ≡ 2 → ⊥) → (kind w ≡ 3 → ⊥) → (kind w ≡ 4 → ⊥) → true ≡ limitAt? s w
+  pub no-limit : kind w ≢ number location → kind w ≢ number action → kind w ≢ number edge → true ≡ limitAt? s w
   unfolding limitAt? limit?
   no-limit l a e = by-kind (λ (k : Kind). true ≡ limit? k (s .locations) (s .actions) (s .run)) w refl other
     where

@@ -11,7 +11,7 @@ use lib.ListN.{length, drop, getD}
 use Rattle.zone.specs.Words.{kind}
 use Rattle.zone.specs.Squares.{all?}
 use Rattle.zone.specs.Stores.{HasSlot}
-use Rattle.model.specs.Kinds.{location, action, edge, bound, start}
+use Rattle.model.specs.Kinds.{Kind, location, action, edge, bound, start, number}
 use Rattle.model.specs.Grammar.{follows, tableFollows, numbered?, mayFollow?, follows?, tableFollows?}
 use Rattle.model.specs.Scan.{startBoundsAt, zoneCount, WithinLimits, faultAt, seenWithKind}
 use Rattle.model.specs.Index.{keep, keptWithKind, keptWith, scanFrom, scanned}
@@ -54,10 +54,10 @@ within c = turn (checked c) .loop .inv .1
 sound : (c : tie.After-enum-told Inv-loop μ-loop) → faultAt (turn (checked c) .loop .seen) (word (checked c)) ≡ fault.None
 sound c = sym (checked c .fault .ensures) ∙ c .enum-told .given .1
 
-named : (c : tie.After-enum-told Inv-loop μ-loop) (n : ℕ) → read c .kind-of .result ≡ n → kind (word (checked c)) ≡ n
+named : (c : tie.After-enum-told Inv-loop μ-loop) (n : Kind) → read c .kind-of .result ≡ number n → kind (word (checked c)) ≡ number n
 named c n e = sym (read c .kind-of .ensures) ∙ e
 
-other : (c : tie.After-enum-told Inv-loop μ-loop) (n : ℕ) → (read c .kind-of .result ≡ n → ⊥) → kind (word (checked c)) ≡ n → ⊥
+other : (c : tie.After-enum-told Inv-loop μ-loop) (n : Kind) → (read c .kind-of .result ≡ number n → ⊥) → kind (word (checked c)) ≡ number n → ⊥
 other c n h q = h (read c .kind-of .ensures ∙ q)
 
 -- a slot of the zones is in their store
@@ -78,20 +78,20 @@ joined c =
     ⊎-elim
     (λ w.
     kept-same (w .8 ∙ w .1 .ensures) (w .6) (w .7 ∙ put-same _ _ (w .2 .ensures) (w .4 .ensures))
-    ∙ kept-step _ _ _ location (named k 2 (w .0 .keys1)))
+    ∙ kept-step _ _ _ location (named k location (w .0 .keys1)))
     (⊎-elim
     (λ w.
     kept-same (w .9 ∙ w .1 .ensures) (w .7) (w .8 ∙ put-same _ _ (w .2 .ensures) (w .5 .ensures))
-    ∙ kept-step _ _ _ action (named k 3 (w .0 .keys2)))
+    ∙ kept-step _ _ _ action (named k action (w .0 .keys2)))
     (⊎-elim
-    (λ w. kept-same (w .3) (w .1) (w .2) ∙ kept-step _ _ _ edge (named k 4 (w .0 .keys3)))
+    (λ w. kept-same (w .3) (w .1) (w .2) ∙ kept-step _ _ _ edge (named k edge (w .0 .keys3)))
     (⊎-elim
-    (λ w. kept-same (w .7) (w .5) (w .6 ∙ put-same _ _ (w .1 .ensures) (w .3 .ensures)) ∙ kept-step _ _ _ start (named k 6 (w .0 .keys4)))
+    (λ w. kept-same (w .7) (w .5) (w .6 ∙ put-same _ _ (w .1 .ensures) (w .3 .ensures)) ∙ kept-step _ _ _ start (named k start (w .0 .keys4)))
     (λ w.
     let r = w .0 .rest in
     kept-same (w .3) (w .1) (w .2)
-    ∙ kept-stays _ _ _ (other k 2 (r .0 .0 .0 .1)) (other k 3 (r .0 .0 .1)) (other k 4 (r .0 .1)) (other k 5 (c .before .if1 .left))
-    (other k 6 (r .1))))))
+    ∙ kept-stays _ _ _ (other k location (r .0 .0 .0 .1)) (other k action (r .0 .0 .1)) (other k edge (r .0 .1))
+    (other k bound (c .before .if1 .left)) (other k start (r .1))))))
     (c .match2 .came)
 
 loop-holds : tie.Need-loop-holds Inv-loop μ-loop
@@ -125,7 +125,7 @@ returns c =
 add-bound-requires : tie.Need-add-bound-requires Inv-loop μ-loop
 add-bound-requires c κs =
     let k = c .before .before in
-    let cell = bound-cell _ _ (within k) (sound k) (eq-eqb _ _ (named k 5 (c .before .if1 .taken))) in
+    let cell = bound-cell _ _ (within k) (sound k) (eq-eqb _ _ (named k bound (c .before .if1 .taken))) in
     (has-slot k _ (within k .slot), cell .0, cell .1)
 
 loop-again : tie.Need-loop-again Inv-loop μ-loop
@@ -134,7 +134,7 @@ loop-again c =
     let k = c .before .before .before .before in
     let here = turn (checked k) .loop in
     let inv = here .inv in
-    let e = named k 5 (c .before .before .before .if1 .taken) in
+    let e = named k bound (c .before .before .before .if1 .taken) in
     let go =
     scan-go _ _ _ _ (omega arith) (inv .1) (inv .2) (sound k) (seen-step _ _ _ bound e)
     (kept-same refl refl (c .before .add-bound .ensures) ∙ kept-step _ _ _ bound e) in
@@ -143,12 +143,12 @@ loop-again c =
 with-location-requires : tie.Need-with-location-requires Inv-loop μ-loop
 with-location-requires c κs =
     let k = c .before .before in
-    (room-location _ _ (within k) (sound k) (named k 2 (c .match2 .keys1)), within k .actions)
+    (room-location _ _ (within k) (sound k) (named k location (c .match2 .keys1)), within k .actions)
 
 put-requires : tie.Need-put-requires Inv-loop μ-loop
 put-requires c κs =
     let k = c .before .before .before .before .before in
-    let few = room-location _ _ (within k) (sound k) (named k 2 (c .before .before .before .match2 .keys1)) in
+    let few = room-location _ _ (within k) (sound k) (named k location (c .before .before .before .match2 .keys1)) in
     has-slot k _ (omega arith)
 
 with-action-requires : tie.Need-with-action-requires Inv-loop μ-loop
@@ -161,13 +161,13 @@ with-action-requires c κs =
 put-requires-2 : tie.Need-put-requires-2 Inv-loop μ-loop
 put-requires-2 c κs =
     let k = c .before .before .before .before .before .before in
-    let few = room-action _ _ (within k) (sound k) (named k 3 (c .before .before .before .before .match2 .keys2)) in
+    let few = room-action _ _ (within k) (sound k) (named k action (c .before .before .before .before .match2 .keys2)) in
     has-slot k _ (omega arith)
 
 slice-write-edges : tie.Need-slice-write-edges Inv-loop μ-loop
 slice-write-edges c =
     let k = c .before .before in
-    let few = room-edge _ _ (within k) (sound k) (named k 4 (c .match2 .keys3)) in
+    let few = room-edge _ _ (within k) (sound k) (named k edge (c .match2 .keys3)) in
     let same = turn (checked k) .loop .inv .3 in
     let room = turn (checked k) .before .before .before .pre .edges in
     omega arith
