@@ -25,7 +25,7 @@ pub enum TableAnswer {
 }
 
 // The answer, and beside it what judging needs of a table whose words are good: V, how many nodes it has, and the number of the start node with
-// the index of its word. Its nodes and their zones stand in the lent stores. Of other words only the answer says anything.
+// the index of its word. Its nodes and their zones stand in the lent stores. Of other words these are what the pass has left.
 pub struct TableRead {
     pub answer: TableAnswer,
     pub whole: u32,
