@@ -40,7 +40,7 @@ pub(crate) enum Missing {
 }
 
 // The answer, and beside it what judging needs of an accepted model: its index, and the zone of its start valuations, tightened. Its edge words
-// and zones stand in the lent stores. Of a refused file these are what the pass has left.
+// and zones stand in the lent stores. Of a refused file the index and the stores are what the pass has left.
 pub struct ModelRead {
     pub answer: ModelAnswer,
     pub index: Index,
