@@ -1,4 +1,4 @@
--- What the machine's arithmetic on two keys comes to: the test, the pick and the sum. Assumes nothing.
+-- What the machine's arithmetic on keys comes to: the test, the pick, the sum and the negation. Assumes nothing.
 use Prim.Native.Nat.{ℕ, suc, _+_, _-_, _*_, _%_, _^_, _<_, max}
 use mathlib.Core.Path.{_≡_, refl, ap, ap₂, _∙_}
 use mathlib.Core.Bool.{Bool, true, false, cond}
@@ -11,7 +11,7 @@ use mir.Syntax.{w32, w64}
 use mir.Val.{SFits, toZ, ofZ, boolByte}
 use mir.Facts.{toZ-ofZ, toZ-pos}
 use Rattle.zone.specs.Keys.{lowest}
-use Rattle.zone.specs.Cells.{tighterOf, sumKey, sum}
+use Rattle.zone.specs.Cells.{tighterOf, sumKey, sum, negated}
 use Rattle.zone.specs.declared.bounds.Bound.{Bound as Cell}
 use Rattle.zone.proofs.Bools.{by-test}
 use Rattle.zone.proofs.Integers.{up, dn, ltZ→, →ltZ, parts-add, up-neg, dn-neg}
@@ -141,3 +141,19 @@ pub is-sum :
     record { key = toZ w32 (ofZ w32 (rest (a .key) (b .key) h k x e)) } ≡ sum a b
 unfolding sum
 is-sum a b h k x e = ap (λ (z : ℤ). record { key = z }) (rest-back (a .key) (b .key) h k x e)
+
+-- ---- the negation: 1 less the key
+module _ (a : ℤ) (h : mag a < 5 * 2 ^ 27) where
+  abbrev less : ℤ
+  less = pos 1 -ℤ toZ w32 (ofZ w32 a)
+
+  less-is : less ≡ pos 1 -ℤ a
+  less-is = rw (back32 a (omega arith)) refl
+
+  pub less-fits : SFits w32 less
+  less-fits =
+      rw less-is (record { sfits = let g = mag-add (pos 1) (negℤ a) {m = 2} (omega arith) (mag-neg a h) in omega arith })
+
+pub is-negated : (a : Cell) (h : mag (a .key) < 5 * 2 ^ 27) → record { key = toZ w32 (ofZ w32 (less (a .key) h)) } ≡ negated a
+unfolding negated
+is-negated a h = ap (λ (z : ℤ). record { key = z }) (toZ-ofZ (less-fits (a .key) h) ∙ less-is (a .key) h)

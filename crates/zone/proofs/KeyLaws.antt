@@ -7,7 +7,7 @@ use mathlib.Core.List.{[], _∷_}
 use Prim.Native.Nat.{ℕ, zero, suc, _+_, _*_, _^_, _≤_, _<_}
 use native.Mathlib.Omega.{arith}
 use lib.Dec.{T, eqb, T-not, not-T}
-use lib.IntN.{ℤ, pos, negsuc, natAbs, _+ℤ_, _-ℤ_, _*ℤ_}
+use lib.IntN.{ℤ, pos, negsuc, natAbs, negℤ, _+ℤ_, _-ℤ_, _*ℤ_}
 use lib.Signed.{leZ, ltZ, mag}
 use Rattle.zone.specs.declared.bounds.Bound.{Bound as Cell}
 use Rattle.zone.specs.Keys.{keyOf, finite?, half, lowest, saidOf, PickOf}
@@ -15,7 +15,8 @@ use Rattle.zone.specs.Cells.{unbounded, atMostZero, tighter?, tighterOf,
 use Rattle.zone.specs.Scale.{Valuation, Bound, read, holds?, in?, within}
 use Rattle.zone.specs.Reading.{cellOf}
 use Rattle.zone.proofs.Bools.{true-false, is-true, is-false, both, and}
-use Rattle.zone.proofs.Integers.{lt-or-ge, up, dn, abs-parts, abs-small, leZ→, →leZ, ltZ→, →ltZ, nltZ→, parts-add, parts-less, parts-diff, up-mul, dn-mul}
+use Rattle.zone.proofs.Integers.{lt-or-ge, up, dn, abs-parts, abs-small, leZ→, →leZ, ltZ→, →ltZ, nltZ→, up-neg, dn-neg, parts-add, parts-less, parts-diff}
+use Rattle.zone.proofs.Integers.{up-mul, dn-mul}
 use Rattle.zone.proofs.Limits.{Limit, none, keyed, halved, parts-sum, Within, Holds, _⊓_, _⊕_, _⊑_, ⊑-none, bounds}
 
 unfoldable pub limitOf : Cell → Limit
@@ -275,6 +276,53 @@ holds→ k v b = meant k v b .0
 
 pub →holds : (k : ℕ) (v : Valuation) (b : Bound) → bounds .Holds k (read v (b .i)) (read v (b .j)) (boundLimit b) → T (holds? k v b)
 →holds k v b = meant k v b .1
+
+-- ---- the bound that holds exactly where b does not: its clocks, its number and its strictness the other way round
+abbrev pub opposite : Bound → Bound
+opposite b = record { i = b .j; j = b .i; d = negℤ (b .d); strict = not (b .strict) }
+
+loose-not : (s : Bool) → loose (not s) + loose s ≡ 1
+loose-not true = refl
+loose-not false = refl
+
+pub key-opposite : (d : ℤ) (s : Bool) → keyOf (negℤ d) (not s) ≡ pos 1 -ℤ keyOf d s
+key-opposite d s =
+    same-parts (keyOf (negℤ d) (not s)) (pos 1 -ℤ keyOf d s)
+    (omega (
+      arith,
+      parts-key d s,
+      parts-key (negℤ d) (not s),
+      loose-not s,
+      up-neg d,
+      dn-neg d,
+      parts-add (pos 1) (negℤ (keyOf d s)),
+      up-neg (keyOf d s),
+      dn-neg (keyOf d s),
+    ))
+
+module _ (k x y : ℕ) (d : ℤ) (s : Bool) where
+  up-same : k * up (negℤ d) ≡ k * dn d
+  up-same = ap (λ n. k * n) (up-neg d)
+
+  dn-same : k * dn (negℤ d) ≡ k * up d
+  dn-same = ap (λ n. k * n) (dn-neg d)
+
+  fails→says : T (not (says? k x y d s)) → T (says? k y x (negℤ d) (not s))
+  fails→says t = by (lt-or-ge (x + k * dn d) (y + k * up d + loose s))
+    where
+      by : (x + k * dn d < y + k * up d + loose s) ⊎ (y + k * up d + loose s ≤ x + k * dn d) → T (says? k y x (negℤ d) (not s))
+      by (inl h) = absurd (T-not (says? k x y d s) t (→says k x y d s h))
+      by (inr h) = →says k y x (negℤ d) (not s) (omega (arith, loose-not s, up-same, dn-same))
+
+  says→fails : T (says? k y x (negℤ d) (not s)) → T (not (says? k x y d s))
+  says→fails t =
+      not-T (says? k x y d s)
+      (λ h. omega (arith, says→ k x y d s h, says→ k y x (negℤ d) (not s) t, loose-not s, up-same, dn-same))
+
+pub opposite-holds : (k : ℕ) (v : Valuation) (b : Bound) → T (holds? k v (opposite b)) ↔ T (not (holds? k v b))
+unfolding holds?
+opposite-holds k v b =
+    (says→fails k (read v (b .i)) (read v (b .j)) (b .d) (b .strict), fails→says k (read v (b .i)) (read v (b .j)) (b .d) (b .strict))
 
 -- ---- the key that a table keeps of a bound
 key-finite : (d : ℤ) (s : Bool) → natAbs d < 2 ^ 26 → Finite (record { key = keyOf d s })

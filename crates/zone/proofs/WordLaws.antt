@@ -35,14 +35,14 @@ unfolding boundOf boundFields?
 fields-are C w i j e f = rw (e, f, number-bits w)
 
 module _ (w : ℕ) where
-  number-small : mag (boundOf w .d) < 4096
+  value-small : mag (boundOf w .d) < 4096
   unfolding boundOf
-  number-small = mag-cond (ltb (bits 12 0 w) 4096) (omega arith) (omega arith)
+  value-small = mag-cond (ltb (bits 12 0 w) 4096) (omega arith) (omega arith)
 
   pub number-fits : SFits w32 (toZ w32 (w % 8192) -ℤ pos 4096)
   unfolding boundOf
   number-fits =
-      let h = number-small in rw (toZ-pos w32 {n = w % 8192} (omega arith), number-bits w) (record { sfits = omega arith })
+      let h = value-small in rw (toZ-pos w32 {n = w % 8192} (omega arith), number-bits w) (record { sfits = omega arith })
 
   number-is : toZ w32 (ofZ w32 (toZ w32 (w % 8192) -ℤ pos 4096)) ≡ boundOf w .d
   unfolding boundOf
@@ -53,7 +53,7 @@ module _ (w : ℕ) where
 
   pub twice-fits : SFits w32 (number +ℤ number)
   twice-fits =
-      let h = mag-add (boundOf w .d) (boundOf w .d) number-small number-small in rw number-is (record { sfits = omega arith })
+      let h = mag-add (boundOf w .d) (boundOf w .d) value-small value-small in rw number-is (record { sfits = omega arith })
 
   abbrev key : Bool → ℤ
   key s = toZ w32 (ofZ w32 (number +ℤ number)) +ℤ toZ w32 (boolByte (not s))
@@ -64,7 +64,7 @@ module _ (w : ℕ) where
 
   key-small : (s : Bool) → mag (keyOf (boundOf w .d) s) < 8194
   key-small s =
-      mag-add (boundOf w .d +ℤ boundOf w .d) (pos (cond s 0 1)) (mag-add (boundOf w .d) (boundOf w .d) number-small number-small) (loose-small s)
+      mag-add (boundOf w .d +ℤ boundOf w .d) (pos (cond s 0 1)) (mag-add (boundOf w .d) (boundOf w .d) value-small value-small) (loose-small s)
 
   pub key-fits : (s : Bool) → SFits w32 (key s)
   key-fits s = let h = key-small s in rw (key-is s) (record { sfits = omega arith })
@@ -74,28 +74,28 @@ module _ (w : ℕ) where
   cell-is =
       let s : Bool = eqb (w / 2 ^ 19 % 2) 1 in ap (λ (z : ℤ). record { key = z }) (toZ-ofZ (key-fits s) ∙ key-is s)
 
--- ---- the fields of a good bound
-module _ (C w : ℕ) (good : goodBound? C w ≡ true) where
-  clocks-good : (leb (boundOf w .i) C && leb (boundOf w .j) C) ≡ true
-  unfolding goodBound? boundFields? boundOf
-  clocks-good = left-true _ _ (left-true _ _ (left-true _ _ (right-true (eqb (kind w) 5) _ good)))
+-- ---- the fields of a bound that are in their ranges
+module _ (C w : ℕ) (fields : boundFields? C w ≡ true) where
+  clocks-fit : (leb (boundOf w .i) C && leb (boundOf w .j) C) ≡ true
+  unfolding boundFields? boundOf
+  clocks-fit = left-true _ _ (left-true _ _ (left-true _ _ fields))
 
-  pub good-first : boundOf w .i ≤ C
-  good-first = leb-true (boundOf w .i) C (left-true (leb (boundOf w .i) C) (leb (boundOf w .j) C) clocks-good)
+  pub first-fits : boundOf w .i ≤ C
+  first-fits = leb-true (boundOf w .i) C (left-true (leb (boundOf w .i) C) (leb (boundOf w .j) C) clocks-fit)
 
-  pub good-second : boundOf w .j ≤ C
-  good-second = leb-true (boundOf w .j) C (right-true (leb (boundOf w .i) C) (leb (boundOf w .j) C) clocks-good)
+  pub second-fits : boundOf w .j ≤ C
+  second-fits = leb-true (boundOf w .j) C (right-true (leb (boundOf w .i) C) (leb (boundOf w .j) C) clocks-fit)
 
   -- d is never -4,096
   number-there : not (eqb (bits 12 0 w) 0) ≡ true
-  unfolding goodBound? boundFields?
+  unfolding boundFields?
   number-there =
       right-true (leb (bits 27 24 w) C && leb (bits 23 20 w) C && not (eqb (bits 27 24 w) (bits 23 20 w))) _
-      (left-true _ (eqb (bits 18 13 w) 0) (right-true (eqb (kind w) 5) _ good))
+      (left-true _ (eqb (bits 18 13 w) 0) fields)
 
-  pub good-number : natAbs (boundOf w .d) < 4096
+  pub number-small : natAbs (boundOf w .d) < 4096
   unfolding boundOf
-  good-number =
+  number-small =
       let e = parts-diff (bits 12 0 w) 4096 in
       let h = positive (bits 12 0 w) number-there in
       abs-small (pos (bits 12 0 w) -ℤ pos 4096) (omega arith) (omega arith)
@@ -103,3 +103,18 @@ module _ (C w : ℕ) (good : goodBound? C w ≡ true) where
       positive : (n : ℕ) → not (eqb n 0) ≡ true → 1 ≤ n
       positive zero e = false-true e
       positive (suc n) e = omega arith
+
+-- those of a good bound
+module _ (C w : ℕ) (good : goodBound? C w ≡ true) where
+  pub good-fields : boundFields? C w ≡ true
+  unfolding goodBound?
+  good-fields = right-true (eqb (kind w) 5) _ good
+
+  pub good-first : boundOf w .i ≤ C
+  good-first = first-fits C w good-fields
+
+  pub good-second : boundOf w .j ≤ C
+  good-second = second-fits C w good-fields
+
+  pub good-number : natAbs (boundOf w .d) < 4096
+  good-number = number-small C w good-fields

@@ -28,6 +28,10 @@ sumKey y z = y +ℤ z -ℤ pos (max (lowest y) (lowest z))
 unfoldable pub sum : Cell → Cell → Cell
 sum a b = record { key = sumKey (a .key) (b .key) }
 
+-- of a bound of clock i minus clock j, the bound of clock j minus clock i that holds exactly where it does not: d and strictness turned round
+unfoldable pub negated : Cell → Cell
+negated a = record { key = pos 1 -ℤ a .key }
+
 -- tighter than "at most 0", so that it never holds of a clock minus itself
 unfoldable pub negative? : Cell → Bool
 negative? a = tighter? a atMostZero

@@ -4,7 +4,7 @@ ghost use Prim.Native.Nat.{_<_, _^_, max};
 ghost use lib.IntN.{pos, _-ℤ_};
 ghost use lib.Signed.{ltZ};
 ghost use Rattle.zone.specs.Keys.{PickOf, lowest};
-ghost use Rattle.zone.specs.Cells.{tighter?, tighterOf, sum, negative?, size};
+ghost use Rattle.zone.specs.Cells.{tighter?, tighterOf, sum, negated, negative?, size};
 
 // A bound of the difference of two clocks, at most d time units, or below d if strict: its key is 2 * d, and one more unless it is strict. Keys
 // from FINITE_BELOW up are those of absent bounds.
@@ -66,6 +66,15 @@ impl Bound {
         Bound {
             key: self.key + other.key - self.excess(other),
         }
+    }
+
+    // Of a bound of clock i minus clock j, the bound of clock j minus clock i that holds exactly where this one does not: at most d becomes below
+    // -d, and below d becomes at most -d.
+    pub fn negated(self) -> Bound
+        requires { ⌜ size self < 2 ^ 27 ⌝ }
+        ensures { λ r. ⌜ r ≡ negated self ⌝ }
+    {
+        Bound { key: 1 - self.key }
     }
 
     // Tighter than "at most 0", so that it never holds of a clock minus itself.

@@ -1,8 +1,8 @@
-// Zones as square tables of bounds, by value: meet, tighten, delay, reset, and whether one is empty or lies inside another.
+// Zones as square tables of bounds, by value: one bound more, meet, tighten, delay, reset, and whether one is empty or lies inside another.
 ghost use mathlib.Core.Path.{_≡_};
 ghost use Prim.Native.Nat.{_<_};
 ghost use Rattle.zone.specs.Moves.{masked?};
-ghost use Rattle.zone.specs.Squares.{universe, met, tightened, delayedSquare, source, resetSquare, beforeReset};
+ghost use Rattle.zone.specs.Squares.{universe, withBound, met, tightened, delayedSquare, source, resetSquare, beforeReset};
 ghost use Rattle.zone.specs.Squares.{listOf, empty?, inside?, Tightens};
 use crate::bounds::Bound;
 
@@ -95,6 +95,18 @@ impl Zone {
             let old = self.cells[p];
             out.cells[p] = old.tighter_of(other.cells[p]);
         }
+        out
+    }
+
+    // The valuations where a bound of clock i minus clock j holds as well.
+    pub fn with_bound(self, i: usize, j: usize, bound: Bound) -> Zone
+        requires { ⌜ (i < 5) × (j < 5) ⌝ }
+        ensures { λ r. ⌜ r ≡ withBound i j bound self ⌝ }
+    {
+        let p = i * 5 + j;
+        let old = self.cells[p];
+        let mut out = self;
+        out.cells[p] = old.tighter_of(bound);
         out
     }
 

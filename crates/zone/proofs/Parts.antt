@@ -1,0 +1,58 @@
+-- Laws of a zone that is cut in two by a bound: the part where the bound holds, and the rest. Assumes nothing.
+use Prim.Native.Nat.{ℕ, _<_}
+use mathlib.Core.Path.{_≡_, refl, ap, subst}
+use mathlib.Core.Bool.{Bool, true, false, not, _||_}
+use native.Mathlib.Omega.{arith}
+use lib.Dec.{T}
+use lib.IntN.{ℤ, natAbs, negℤ}
+use Rattle.zone.specs.Scale.{Bound, holds?, Region, Inside}
+use Rattle.zone.specs.Cells.{negated}
+use Rattle.zone.specs.Squares.{withBound, tightened, empty?, inside?, Tightens}
+use Rattle.zone.specs.Reading.{cellOf}
+use Rattle.zone.specs.declared.bounds.Bound.{Bound as Cell}
+use Rattle.zone.specs.declared.zones.Zone.{Zone as Square}
+use Rattle.zone.proofs.Bools.{true-false}
+use Rattle.zone.proofs.Integers.{abs-parts, up-neg, dn-neg}
+use Rattle.zone.proofs.KeyLaws.{opposite, key-opposite, opposite-holds}
+use Rattle.zone.proofs.Regions.{Stands, inBoth, stands-same, stands-withBound, empty-yes, inside-yes, inside-no}
+use Rattle.zone.proofs.Sizes.{tightens-withBound}
+
+-- where a bound does not hold
+abbrev pub failing : Bound → Region
+failing b k v = T (not (holds? k v b))
+
+module _ (b : Bound) where
+  cell-opposite : cellOf (opposite b) ≡ negated (cellOf b)
+  unfolding negated
+  cell-opposite = ap (λ (z : ℤ). record { key = z }) (key-opposite (b .d) (b .strict))
+
+  number-opposite : natAbs (b .d) < 4096 → natAbs (negℤ (b .d)) < 4096
+  number-opposite h = omega (arith, abs-parts (b .d), abs-parts (negℤ (b .d)), up-neg (b .d), dn-neg (b .d))
+
+  -- the table with the negated bound stands for the rest
+  pub stands-rest : {R : Region} {z : Square} → b .i < 5 → b .j < 5 → natAbs (b .d) < 4096 → Stands R z →
+      Stands (inBoth (failing b) R) (withBound (b .j) (b .i) (negated (cellOf b)) z)
+  stands-rest {R} {z} hi hj h s =
+      subst (λ (c : Cell). Stands (inBoth (failing b) R) (withBound (b .j) (b .i) c z)) cell-opposite
+      (stands-same (λ k v p. (opposite-holds k v b .0 (p .0), p .1)) (λ k v p. (opposite-holds k v b .1 (p .0), p .1))
+      (stands-withBound (opposite b) hj hi (number-opposite h) s))
+
+  pub tightens-rest : (z : Square) → natAbs (b .d) < 4096 → Tightens 3 z → Tightens 3 (withBound (b .j) (b .i) (negated (cellOf b)) z)
+  tightens-rest z h s =
+      subst (λ (c : Cell). Tightens 3 (withBound (b .j) (b .i) c z)) cell-opposite (tightens-withBound (opposite b) z (number-opposite h) s)
+
+-- ---- whether a part lies inside a region: an empty one lies inside any
+module _ {R S : Region} {y z : Square} (fits : Tightens 1 y) (s : Stands R y) (t : Stands S z) where
+  pub part-yes : (empty? (tightened y) || inside? (tightened y) z) ≡ true → Inside R S
+  part-yes = by (empty? (tightened y)) refl
+    where
+      by : (c : Bool) → empty? (tightened y) ≡ c → (c || inside? (tightened y) z) ≡ true → Inside R S
+      by true e h = record { at = λ k k₁ v r. absurd (empty-yes fits s e .at k k₁ v r) }
+      by false e h = inside-yes fits s t h
+
+  pub part-no : (empty? (tightened y) || inside? (tightened y) z) ≡ false → Inside R S → ⊥
+  part-no = by (empty? (tightened y)) refl
+    where
+      by : (c : Bool) → empty? (tightened y) ≡ c → (c || inside? (tightened y) z) ≡ false → Inside R S → ⊥
+      by true e h m = true-false h
+      by false e h m = inside-no fits s t e h m
