@@ -1,24 +1,28 @@
--- The checks 15 to 21 and acceptance say the same: for the table of words that pass 11 to 14, all of the checks hold exactly where the table is
--- accepted. Assumes nothing.
+-- The checks 15 to 21, with 51 to 53, and acceptance say the same: for the table of words that pass 11 to 14, all of the checks hold exactly where
+-- the table is accepted. Assumes nothing.
 use Prim.Native.Nat.{ℕ, zero, suc, _+_, _<_, zero-le, suc-le-suc}
 use mathlib.Core.Path.{_≡_}
-use mathlib.Core.Bool.{Bool, true, false, cond}
-use mathlib.Core.List.{List, [], _∷_}
-use native.Mathlib.Nat.{le-of-suc-le-suc, not-suc-le-zero}
+use mathlib.Core.Bool.{Bool, true, false, not, cond}
+use mathlib.Core.List.{List, [], _∷_, _++_}
+use native.Mathlib.Omega.{arith}
+use native.Mathlib.Nat.{le-of-suc-le-suc, not-suc-le-zero, add-zero, zero-add}
 use lib.Dec.{T}
 use lib.ListN.{getD, length, drop}
 use Rattle.zone.specs.Checks.{Check, check}
 use Rattle.zone.proofs.CheckLaws.{AllHold, all-left, all-right, all-join}
-use Rattle.model.specs.TableKinds.{blocked, isTable}
-use Rattle.model.specs.Model.{Edge, Action, Model}
+use Rattle.zone.specs.Scale.{Region}
+use Rattle.model.specs.TableKinds.{blocked, cut, isTable}
+use Rattle.model.specs.Model.{Edge, Action, Location, Model}
 use Rattle.model.specs.States.{locationAt}
 use Rattle.model.proofs.ZoneLaws.{All, more}
 use Rattle.table.specs.Fields.{numberOf}
-use Rattle.table.specs.Table.{Successor, Row, blockedRow, successorRow, Node, noNode, Table, nodeAt, successorsOf, rowsOf, rowActions}
+use Rattle.table.specs.Table.{Successor, Row, blockedRow, successorRow, Cut, Body, rowsBody, cutBody, Node, noNode, Table, nodeAt}
+use Rattle.table.specs.Table.{successorsOf, rowsOf, cutOf, rowActions, bodyOf}
 use Rattle.table.specs.Scan.{rowSize}
-use Rattle.table.proofs.Shape.{RowStands, RowsStand, NodeShaped, Shaped}
-use Rattle.acceptance.specs.Acceptance.{Pairwise, SumFits, SuccessorFits, RowFits, NodeFits, Accepted}
-use Rattle.acceptance.specs.Judging.{successorChecks, rowChecks, rowsChecks, nodeChecks, nodesChecks, startChecks, tableChecks}
+use Rattle.table.proofs.Shape.{RowStands, RowsStand, CutStands, BodyStands, NodeShaped, Shaped}
+use Rattle.acceptance.specs.Acceptance.{Pairwise, SumFits, SuccessorFits, RowFits, holdingPart, restPart, PartFits, BodyFits, HasWhole, NodeFits, Accepted}
+use Rattle.acceptance.specs.Judging.{successorChecks, rowChecks, rowsChecks, partChecks, cutChecks, bodyChecks, nodeChecks, nodesChecks}
+use Rattle.acceptance.specs.Judging.{startChecks, tableChecks}
 
 -- ---- the rows of words that pass: one for each action, with a successor for each edge, which names one of so many nodes
 
@@ -54,6 +58,19 @@ rows-pair nodes (A ∷ As) p ws h =
     by true g gs rest = (tt, rest (suc p) (drop 1 ws) gs)
     by false g gs rest =
         (successors-pair nodes (A .edges) p ws (g .2), rest (p + length (A .edges)) (drop (length (A .edges)) ws) gs)
+
+-- what a node of words that pass carries: such rows, or a cut at a location that is no target, both of whose successors are there
+abbrev BodyThere : ℕ → Location → Body → Type 0
+BodyThere nodes L (rowsBody rs) = Pairwise (RowThere nodes) (rowActions L) rs
+BodyThere nodes L (cutBody c) = T (not (L .target)) × (c .holding .node < nodes) × (c .rest .node < nodes)
+
+body-there : (nodes : ℕ) (L : Location) (p : ℕ) (ws : List ℕ) → BodyStands nodes (isTable cut (getD ws 0 0)) L ws → BodyThere nodes L (bodyOf L p ws)
+unfolding bodyOf BodyStands cutOf
+body-there nodes L p ws = by (isTable cut (getD ws 0 0))
+  where
+    by : (c : Bool) → BodyStands nodes c L ws → BodyThere nodes L (cond c (cutBody (cutOf p ws)) (rowsBody (rowsOf (rowActions L) p ws)))
+    by true h = (rw (h .elsewhere) tt, h .holding, h .rest)
+    by false h = rows-pair nodes (rowActions L) p ws h
 
 -- ---- both ways, part by part
 module _ (M : Model) (W : Table) where
@@ -104,71 +121,108 @@ module _ (M : Model) (W : Table) where
   rows-hold N (A ∷ As) [] f = tt
   rows-hold N (A ∷ As) (r ∷ rs) f = all-join (rowChecks M W N A r) _ (row-holds N A r (f .0)) (rows-hold N As rs (f .1))
 
-  -- a node whose location has the actions As and is a target or not
-  abbrev checksAt : Node → Bool → List Action → List Check
-  checksAt N target As = cond target (check 15 (N .place) (N .value ≡ W .whole) ∷ []) (rowsChecks M W N As (N .rows))
+  part-fits : (n : ℕ) (N : Node) (P : Region) (t : Successor) → t .node < length (W .nodes) → AllHold (partChecks W n N P t) → PartFits W n N P t
+  unfolding partChecks
+  part-fits n N P t l h = record { exists = l; above = h .0; matching = h .1 .0; inside = h .1 .1 .0 }
 
-  node-in-range : (words : List ℕ) (N : Node) → NodeShaped M W words N → AllHold (nodeChecks M W N) → NodeFits M W N
-  unfolding nodeChecks rowActions
-  node-in-range words N s h = record {
-    exists = s .exists;
-    value = s .value;
-    target = sure (locationAt M (N .location) .target) h;
-    rows = fit (locationAt M (N .location) .target) h (rw (s .rows) (rows-pair (length (W .nodes)) _ _ _ (s .stands)));
-  }
-    where
-      As : List Action
-      As = locationAt M (N .location) .actions
+  part-holds : (n : ℕ) (N : Node) (P : Region) (t : Successor) → PartFits W n N P t → AllHold (partChecks W n N P t)
+  unfolding partChecks
+  part-holds n N P t f = (f .above, (f .matching, (f .inside, tt)))
 
-      sure : (c : Bool) → AllHold (checksAt N c As) → T c → N .value ≡ W .whole
-      sure true h t = h .0
-      sure false h t = absurd t
+  -- the node numbered n, where its location has the actions As and is a target or not
+  abbrev checksAt : ℕ → Node → Bool → List Action → Body → List Check
+  checksAt n N target As B = cond target (check 15 (N .place) (HasWhole W N) ∷ []) (bodyChecks M W n N As B)
 
-      fit : (c : Bool) → AllHold (checksAt N c As) → Pairwise (RowThere (length (W .nodes))) (cond c [] As) (N .rows) →
-          Pairwise (RowFits M W N) (cond c [] As) (N .rows)
-      fit true h t = none (N .rows) t
-        where
-          none : (rs : List Row) → Pairwise (RowThere (length (W .nodes))) [] rs → Pairwise (RowFits M W N) [] rs
-          none [] t = tt
-          none (r ∷ rs) t = t
-      fit false h t = rows-in-range N As (N .rows) t h
+  module _ (n : ℕ) (N : Node) where
+    abbrev As : List Action
+    As = locationAt M (N .location) .actions
 
-  node-holds : (N : Node) → NodeFits M W N → AllHold (nodeChecks M W N)
-  unfolding nodeChecks rowActions
-  node-holds N f = by (locationAt M (N .location) .target) (f .target) (f .rows)
-    where
-      As : List Action
-      As = locationAt M (N .location) .actions
+    body-fits : (B : Body) → BodyThere (length (W .nodes)) (locationAt M (N .location)) B →
+        AllHold (checksAt n N (locationAt M (N .location) .target) As B) → BodyFits M W n N B
+    unfolding rowActions bodyChecks cutChecks
+    body-fits (rowsBody rs) t h = by (locationAt M (N .location) .target) rs t h
+      where
+        by : (c : Bool) (rs : List Row) → Pairwise (RowThere (length (W .nodes))) (cond c [] As) rs → AllHold (checksAt n N c As (rowsBody rs)) →
+            Pairwise (RowFits M W N) (cond c [] As) rs
+        by true [] t h = tt
+        by true (r ∷ rs) t h = t
+        by false rs t h = rows-in-range N As rs t h
+    body-fits (cutBody c) t h = record {
+      elsewhere = t .0;
+      holding = part-fits n N _ (c .holding) (t .1) (all-left (partChecks W n N (holdingPart N (c .bound)) (c .holding)) _ holds);
+      rest = part-fits n N _ (c .rest) (t .2) (all-right (partChecks W n N (holdingPart N (c .bound)) (c .holding)) _ holds);
+    }
+      where
+        by : (o : Bool) → T (not o) → AllHold (checksAt n N o As (cutBody c)) → AllHold (bodyChecks M W n N As (cutBody c))
+        by true t h = absurd t
+        by false t h = h
 
-      by : (c : Bool) → (T c → N .value ≡ W .whole) → Pairwise (RowFits M W N) (cond c [] As) (N .rows) → AllHold (checksAt N c As)
-      by true v g = (v tt, tt)
-      by false v g = rows-hold N As (N .rows) g
+        holds : AllHold (partChecks W n N (holdingPart N (c .bound)) (c .holding) ++ partChecks W n N (restPart N (c .bound)) (c .rest))
+        holds = by (locationAt M (N .location) .target) (t .0) h
 
-  nodes-fit : (words : List ℕ) (Ns : List Node) → All (NodeShaped M W words) Ns → AllHold (nodesChecks M W Ns) → (n : ℕ) → n < length Ns →
-      NodeFits M W (getD Ns n noNode)
+    body-holds : (B : Body) → (T (locationAt M (N .location) .target) → HasWhole W N) → BodyFits M W n N B →
+        AllHold (checksAt n N (locationAt M (N .location) .target) As B)
+    unfolding rowActions bodyChecks cutChecks
+    body-holds (rowsBody rs) v f = by (locationAt M (N .location) .target) v f
+      where
+        by : (c : Bool) → (T c → HasWhole W N) → Pairwise (RowFits M W N) (cond c [] As) rs → AllHold (checksAt n N c As (rowsBody rs))
+        by true v f = (v tt, tt)
+        by false v f = rows-hold N As rs f
+    body-holds (cutBody c) v f = by (locationAt M (N .location) .target) (f .elsewhere)
+      where
+        by : (o : Bool) → T (not o) → AllHold (checksAt n N o As (cutBody c))
+        by true t = absurd t
+        by false t =
+            all-join (partChecks W n N (holdingPart N (c .bound)) (c .holding)) _ (part-holds n N _ (c .holding) (f .holding))
+            (part-holds n N _ (c .rest) (f .rest))
+
+    node-in-range : (words : List ℕ) → NodeShaped M W words N → AllHold (nodeChecks M W n N) → NodeFits M W n N
+    unfolding nodeChecks
+    node-in-range words s h = record {
+      exists = s .exists;
+      value = s .value;
+      target = sure (locationAt M (N .location) .target) h;
+      body = body-fits (N .body) (rw (s .body) (body-there (length (W .nodes)) _ _ _ (s .stands))) h;
+    }
+      where
+        sure : (c : Bool) → AllHold (checksAt n N c As (N .body)) → T c → HasWhole W N
+        sure true h t = h .0
+        sure false h t = absurd t
+
+    node-holds : NodeFits M W n N → AllHold (nodeChecks M W n N)
+    unfolding nodeChecks
+    node-holds f = body-holds (N .body) (f .target) (f .body)
+
+  -- the nodes Ns are numbered from m on
+  nodes-fit : (words : List ℕ) (m : ℕ) (Ns : List Node) → All (NodeShaped M W words) Ns → AllHold (nodesChecks M W m Ns) → (n : ℕ) →
+      n < length Ns → NodeFits M W (m + n) (getD Ns n noNode)
   unfolding nodesChecks
-  nodes-fit words [] ss h n l = absurd (not-suc-le-zero l)
-  nodes-fit words (N ∷ Ns) (more s ss) h zero l = node-in-range words N s (all-left (nodeChecks M W N) _ h)
-  nodes-fit words (N ∷ Ns) (more s ss) h (suc n) l =
-      nodes-fit words Ns ss (all-right (nodeChecks M W N) _ h) n (le-of-suc-le-suc l)
+  nodes-fit words m [] ss h n l = absurd (not-suc-le-zero l)
+  nodes-fit words m (N ∷ Ns) (more s ss) h zero l = rw (add-zero m) (node-in-range m N words s (all-left (nodeChecks M W m N) _ h))
+  nodes-fit words m (N ∷ Ns) (more s ss) h (suc n) l =
+      let past : m + suc n ≡ suc m + n = omega arith in
+      rw past (nodes-fit words (suc m) Ns ss (all-right (nodeChecks M W m N) _ h) n (le-of-suc-le-suc l))
 
-  nodes-hold : (Ns : List Node) → ((n : ℕ) → n < length Ns → NodeFits M W (getD Ns n noNode)) → AllHold (nodesChecks M W Ns)
+  nodes-hold : (m : ℕ) (Ns : List Node) → ((n : ℕ) → n < length Ns → NodeFits M W (m + n) (getD Ns n noNode)) → AllHold (nodesChecks M W m Ns)
   unfolding nodesChecks
-  nodes-hold [] f = tt
-  nodes-hold (N ∷ Ns) f =
-      all-join (nodeChecks M W N) _ (node-holds N (f zero (suc-le-suc zero-le))) (nodes-hold Ns (λ n l. f (suc n) (suc-le-suc l)))
+  nodes-hold m [] f = tt
+  nodes-hold m (N ∷ Ns) f =
+      all-join (nodeChecks M W m N) _ (node-holds m N (rw (add-zero m) at (f zero (suc-le-suc zero-le))))
+      (nodes-hold (suc m) Ns (λ n l. let past : m + suc n ≡ suc m + n = omega arith in rw past at (f (suc n) (suc-le-suc l))))
 
   pub checks-accept : (words : List ℕ) → Shaped M words W → AllHold (tableChecks M W) → Accepted M W
   unfolding tableChecks startChecks nodeAt
   checks-accept words s h =
-      let last = all-right (nodesChecks M W (W .nodes)) (startChecks M W) h in
+      let last = all-right (nodesChecks M W 0 (W .nodes)) (startChecks M W) h in
+      let first = all-left (nodesChecks M W 0 (W .nodes)) (startChecks M W) h in
       record {
         whole = s .whole;
-        nodes = nodes-fit words (W .nodes) (s .nodes) (all-left (nodesChecks M W (W .nodes)) (startChecks M W) h);
+        nodes = λ n l. rw (zero-add n) at (nodes-fit words 0 (W .nodes) (s .nodes) first n l);
         start = record { exists = s .start; location = last .0; inside = last .1 .0 };
       }
 
   pub accept-checks : Accepted M W → AllHold (tableChecks M W)
   unfolding tableChecks startChecks nodeAt
   accept-checks ok =
-      all-join (nodesChecks M W (W .nodes)) (startChecks M W) (nodes-hold (W .nodes) (ok .nodes)) (ok .start .location, (ok .start .inside, tt))
+      all-join (nodesChecks M W 0 (W .nodes)) (startChecks M W) (nodes-hold 0 (W .nodes) (λ n l. rw (zero-add n) (ok .nodes n l)))
+      (ok .start .location, (ok .start .inside, tt))

@@ -1,23 +1,25 @@
 -- Demand 3: what an accepted table certifies bounds every scheduler. From acceptance alone, by induction on the number of steps, for every node
--- that holds the present state. Assumes nothing.
-use Prim.Native.Nat.{ℕ, zero, suc, _*_, _^_, _≤_, _<_, zero-le}
+-- that holds the present state; at one step by a second induction, on the number of the node, through cuts, which take no step. Assumes nothing.
+use Prim.Native.Nat.{ℕ, zero, suc, _+_, _*_, _^_, _≤_, _<_, zero-le}
 use mathlib.Core.Path.{_≡_, refl, sym, subst, _∙_}
-use mathlib.Core.Bool.{true, false, _&&_}
+use mathlib.Core.Bool.{Bool, true, false, _&&_}
 use mathlib.Core.List.{List, [], _∷_}
 use mathlib.Core.Option.{some}
+use native.Mathlib.Omega.{arith}
 use native.Mathlib.Nat.{mul-le-mul-left, mul-le-mul-right, add-mul, zero-mul, add-le-add, le-trans, le-refl, le-of-eq, pow-succ', mul-comm, mul-assoc}
 use lib.Dec.{T}
 use lib.ListN.{getElem?, length}
-use Rattle.zone.specs.Scale.{in?, within}
+use Rattle.zone.specs.Scale.{holds?, in?, Region, within}
 use Rattle.zone.specs.Moves.{reset}
 use Rattle.zone.proofs.Bools.{by-test, both}
 use Rattle.zone.proofs.Attained.{delayed-zero}
 use Rattle.model.specs.Model.{Edge, Action, Model}
 use Rattle.model.specs.States.{State, locationAt, IsStart}
-use Rattle.table.specs.Table.{Successor, Row, blockedRow, successorRow, Table, nodeAt, rowActions}
+use Rattle.table.specs.Table.{Successor, Row, blockedRow, successorRow, Body, rowsBody, cutBody, Table, nodeAt, rowActions}
 use Rattle.acceptance.specs.Choices.{later, landing, invariant?, throughout?, land?, allowed?}
 use Rattle.acceptance.specs.Schedulers.{Scheduler, perStep, edgesCount, missed?, weightedCount, BoundsEvery}
-use Rattle.acceptance.specs.Acceptance.{Reach, Pairwise, worth, rowSum, SuccessorFits, RowFits, startValuations, Accepted, certified}
+use Rattle.acceptance.specs.Acceptance.{Reach, Pairwise, worth, rowSum, SuccessorFits, RowFits}
+use Rattle.acceptance.specs.Acceptance.{holdingPart, restPart, PartFits, BodyFits, startValuations, Accepted, certified}
 use Rattle.acceptance.proofs.SchedulerLaws.{by-step, some-one, none-some}
 
 -- the node numbered n holds the state s
@@ -78,14 +80,46 @@ module _ (M : Model) (W : Table) (ok : Accepted M W) (k : ℕ) (positive : 1 ≤
       let sure : nodeAt W b .value ≡ W .whole = ok .nodes b (H .exists) .target (rw (← H .location, y) tt) in
       rw (sure, mul-comm (perStep M ^ n) (W .whole)) (le-refl _)
 
-  -- elsewhere each action has a row
-  row-for : (b : ℕ) (s : State) → Holds W k b s → missed? M k s ≡ false → (a : ℕ) (A : Action) →
-      getElem? (locationAt M (s .location) .actions) a ≡ some A → (r : Row) × RowFits M W (nodeAt W b) A r
+  -- a node with rows that holds the state s, its value no larger than that of the node numbered b
+  record Settled (b : ℕ) (s : State) : Type 0 where
+    node : ℕ
+    holds : Holds W k node s
+    value : nodeAt W node .value ≤ nodeAt W b .value
+    rows : List Row
+    fits : Pairwise (RowFits M W (nodeAt W node)) (rowActions (locationAt M (nodeAt W node .location))) rows
+
+  -- a cut hands the state on to a node with a number above, of which there are at most `left`
+  settled : (left b : ℕ) (s : State) → length (W .nodes) ≤ b + left → Holds W k b s → Settled b s
+  unfolding holdingPart restPart
+  settled zero b s l H = let there = H .exists in absurd (omega arith)
+  settled (suc left) b s l H = by (nodeAt W b .body) (ok .nodes b (H .exists) .body) (λ c. settled left c s)
+    where
+      by : (B : Body) → BodyFits M W b (nodeAt W b) B → ((c : ℕ) → length (W .nodes) ≤ c + left → Holds W k c s → Settled c s) → Settled b s
+      by (rowsBody rs) f next = record { node = b; holds = H; value = le-refl _; rows = rs; fits = f }
+      by (cutBody c) f next = part (holds? k (s .valuation) (c .bound)) refl
+        where
+          onto : (P : Region) (t : Successor) → PartFits W b (nodeAt W b) P t → P k (s .valuation) → Settled b s
+          onto P t x p =
+              let above = x .above in
+              let r = next (t .node) (omega arith) (record {
+                exists = x .exists;
+                location = H .location ∙ sym (x .matching .location);
+                zone = x .inside .at k positive (s .valuation) p;
+              }) in
+              record { node = r .node; holds = r .holds; value = le-trans (r .value) (x .matching .value); rows = r .rows; fits = r .fits }
+
+          part : (o : Bool) → holds? k (s .valuation) (c .bound) ≡ o → Settled b s
+          part true e = onto (holdingPart (nodeAt W b) (c .bound)) (c .holding) (f .holding) (H .zone, rw e tt)
+          part false e = onto (restPart (nodeAt W b) (c .bound)) (c .rest) (f .rest) (H .zone, rw e tt)
+
+  -- elsewhere each action has a row there
+  row-for : (b : ℕ) (s : State) (r : Settled b s) → missed? M k s ≡ false → (a : ℕ) (A : Action) →
+      getElem? (locationAt M (s .location) .actions) a ≡ some A → (row : Row) × RowFits M W (nodeAt W (r .node)) A row
   unfolding missed? rowActions
-  row-for b s H n a A e =
-      let elsewhere : locationAt M (nodeAt W b .location) .target ≡ false = rw (← H .location) n in
-      pair-at (RowFits M W (nodeAt W b)) (locationAt M (nodeAt W b .location) .actions) (nodeAt W b .rows) a A
-      (rw elsewhere at (ok .nodes b (H .exists) .rows)) (rw (← H .location) e)
+  row-for b s r n a A e =
+      let elsewhere : locationAt M (nodeAt W (r .node) .location) .target ≡ false = rw (← r .holds .location) n in
+      pair-at (RowFits M W (nodeAt W (r .node))) (locationAt M (nodeAt W (r .node) .location) .actions) (r .rows) a A
+      (rw elsewhere at (r .fits)) (rw (← r .holds .location) e)
 
   -- an allowed choice from a state that a node holds attains what is in the row's reach
   reached : (b : ℕ) (s : State) → Holds W k b s → (A : Action) (t : ℕ) → T (allowed? M k s A t) →
@@ -130,8 +164,12 @@ module _ (M : Model) (W : Table) (ok : Accepted M W) (k : ℕ) (positive : 1 ≤
       (λ y. rw zero-mul zero-le)
   bounded (suc n) b before s H =
       by-step M k σ n before s (λ c. c * W .whole ≤ nodeAt W b .value * perStep M ^ suc n) (at-target (suc n) b s H) (rw zero-mul zero-le)
-      (λ y history t a A e z. let row = row-for b s H y a A e in
-      onward n (bounded n) b history A (later s t) (reached b s H A t (rw z tt)) (row .0) (row .1))
+      (λ y history t a A e z. let row = row-for b s r y a A e in
+      le-trans (onward n (bounded n) (r .node) history A (later s t) (reached (r .node) s (r .holds) A t (rw z tt)) (row .0) (row .1))
+      (mul-le-mul-right (perStep M ^ suc n) (r .value)))
+    where
+      r : Settled b s
+      r = settled (length (W .nodes)) b s (omega arith) H
 
 -- a start state's valuation is a start valuation
 starts : (M : Model) (k : ℕ) (s : State) → IsStart M k s → startValuations M k (s .valuation)

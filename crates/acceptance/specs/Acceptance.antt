@@ -1,14 +1,15 @@
--- Document 01, "When a table is accepted". Assumes nothing.
+-- Document 01, "When a table is accepted", and document 02, card 1. Assumes nothing.
 use Prim.Native.Nat.{ℕ, _+_, _*_, _≤_, _<_}
 use mathlib.Core.Path.{_≡_}
+use mathlib.Core.Bool.{not}
 use mathlib.Core.List.{List, [], _∷_}
 use lib.ListN.{length}
 use lib.Dec.{T}
-use Rattle.zone.specs.Scale.{Valuation, Region, within, Empty, Inside}
+use Rattle.zone.specs.Scale.{Valuation, Bound, holds?, Region, within, Empty, Inside}
 use Rattle.zone.specs.Moves.{ResetOf}
 use Rattle.model.specs.Model.{Edge, Action, Model}
 use Rattle.model.specs.States.{State, locationAt, IsState, IsStart}
-use Rattle.table.specs.Table.{Successor, Row, blockedRow, successorRow, Node, Table, nodeAt, rowActions}
+use Rattle.table.specs.Table.{Successor, Row, blockedRow, successorRow, Cut, Body, rowsBody, cutBody, Node, Table, nodeAt, rowActions}
 use Rattle.acceptance.specs.Choices.{later, allowed?}
 
 -- a row's reach: every valuation, before resets, that an allowed choice of its action attains from a state in the node's zone
@@ -66,16 +67,59 @@ abbrev pub RowFits : Model → Table → Node → Action → Row → Type 0
 RowFits M W N A (blockedRow p) = Empty (Reach M N A)
 RowFits M W N A (successorRow p ss) = SuccessorsFit M W N A ss
 
+-- ---- a cut (document 02, card 1)
+
+-- the part of the node's zone where the bound holds
+unfoldable pub holdingPart : Node → Bound → Region
+holdingPart N b k v = within (N .zone) k v × T (holds? k v b)
+
+-- the rest: the valuations of the zone where it does not hold
+unfoldable pub restPart : Node → Bound → Region
+restPart N b k v = within (N .zone) k v × T (not (holds? k v b))
+
+-- the successor's number is above the node's own, n
+abbrev pub IsAbove : ℕ → Successor → Type 0
+IsAbove n s = n < s .node
+
+-- the successor has the node's location and a value no larger than the node's own
+pub record Matches (W : Table) (N : Node) (s : Successor) : Type 0 where
+  pub location : nodeAt W (s .node) .location ≡ N .location
+  pub value : nodeAt W (s .node) .value ≤ N .value
+
+-- its zone holds the part
+abbrev pub HoldsPart : Table → Region → Successor → Type 0
+HoldsPart W P s = Inside P (within (nodeAt W (s .node) .zone))
+
+-- the number of the successor is that of a node, as "Words" asks
+pub record PartFits (W : Table) (n : ℕ) (N : Node) (P : Region) (s : Successor) : Type 0 where
+  pub exists : s .node < length (W .nodes)
+  pub above : IsAbove n s
+  pub matching : Matches W N s
+  pub inside : HoldsPart W P s
+
+-- the node's location is no target
+pub record CutFits (M : Model) (W : Table) (n : ℕ) (N : Node) (c : Cut) : Type 0 where
+  pub elsewhere : T (not (locationAt M (N .location) .target))
+  pub holding : PartFits W n N (holdingPart N (c .bound)) (c .holding)
+  pub rest : PartFits W n N (restPart N (c .bound)) (c .rest)
+
+-- ---- nodes, the start, the table
+
+-- a row for each action of the location, none at a target; or a cut in their place
+abbrev pub BodyFits : Model → Table → ℕ → Node → Body → Type 0
+BodyFits M W n N (rowsBody rs) = Pairwise (RowFits M W N) (rowActions (locationAt M (N .location))) rs
+BodyFits M W n N (cutBody c) = CutFits M W n N c
+
 -- a target node has value V
 abbrev pub HasWhole : Table → Node → Type 0
 HasWhole W N = N .value ≡ W .whole
 
--- another node has a row for each action of its location. Its location exists and its value is at most V, as "Words" asks
-pub record NodeFits (M : Model) (W : Table) (N : Node) : Type 0 where
+-- the node numbered n. Its location exists and its value is at most V, as "Words" asks
+pub record NodeFits (M : Model) (W : Table) (n : ℕ) (N : Node) : Type 0 where
   pub exists : N .location < length (M .locations)
   pub value : N .value ≤ W .whole
   pub target : T (locationAt M (N .location) .target) → HasWhole W N
-  pub rows : Pairwise (RowFits M W N) (rowActions (locationAt M (N .location))) (N .rows)
+  pub body : BodyFits M W n N (N .body)
 
 -- the start valuations
 unfoldable pub startValuations : Model → Region
@@ -98,7 +142,7 @@ pub record StartFits (M : Model) (W : Table) : Type 0 where
 -- V is at least 1, as "Words" asks
 pub record Accepted (M : Model) (W : Table) : Type 0 where
   pub whole : 1 ≤ W .whole
-  pub nodes : (n : ℕ) → n < length (W .nodes) → NodeFits M W (nodeAt W n)
+  pub nodes : (n : ℕ) → n < length (W .nodes) → NodeFits M W n (nodeAt W n)
   pub start : StartFits M W
 
 -- the start node's value is b, and b/V is the certified fraction

@@ -1,17 +1,17 @@
--- Document 01, "The four calls and their refusals": judging a table. The model's refusals 1 to 6 come first, then those of the table's words,
--- 11 to 14, then 15 to 21. Assumes nothing.
-use Prim.Native.Nat.{ℕ}
+-- Document 01, "The four calls and their refusals", and document 02, card 1: judging a table. The model's refusals 1 to 6 come first, then those
+-- of the table's words, 11 to 14, then 15 to 21 with 51 to 53 of cuts among them. Assumes nothing.
+use Prim.Native.Nat.{ℕ, suc}
 use mathlib.Core.Path.{_≡_}
 use mathlib.Core.Logic.{_↔_}
 use mathlib.Core.Bool.{cond}
 use mathlib.Core.List.{List, [], _∷_, _++_}
 use lib.ListN.{length}
-use Rattle.zone.specs.Scale.{Empty}
+use Rattle.zone.specs.Scale.{Region, Empty}
 use Rattle.zone.specs.Checks.{Answer, refused, accepted, Check, check, First}
 use Rattle.model.specs.Model.{Edge, Action, Location, Model, modelOf}
 use Rattle.model.specs.States.{locationAt}
 use Rattle.model.specs.Reading.{modelChecks, countsOf, ReadModel}
-use Rattle.table.specs.Table.{Successor, Row, blockedRow, successorRow, Node, Table, tableOf}
+use Rattle.table.specs.Table.{Successor, Row, blockedRow, successorRow, Cut, Body, rowsBody, cutBody, Node, Table, tableOf}
 use Rattle.table.specs.Reading.{readChecks}
 use Rattle.acceptance.specs.Schedulers.{BoundsEvery}
 use Rattle.acceptance.specs.Acceptance.{
@@ -19,6 +19,11 @@ use Rattle.acceptance.specs.Acceptance.{
   HasLocation,
   HoldsReach,
   SumFits,
+  holdingPart,
+  restPart,
+  IsAbove,
+  Matches,
+  HoldsPart,
   HasWhole,
   HasStartLocation,
   HoldsStart,
@@ -49,16 +54,32 @@ rowsChecks M W N [] rs = []
 rowsChecks M W N (A ∷ As) [] = []
 rowsChecks M W N (A ∷ As) (r ∷ rs) = rowChecks M W N A r ++ rowsChecks M W N As rs
 
--- at a target 15: value not V (its 9 word); at another, row by row
-unfoldable pub nodeChecks : Model → Table → Node → List Check
-nodeChecks M W N =
-    let L : Location = locationAt M (N .location) in
-    cond (L .target) (check 15 (N .place) (HasWhole W N) ∷ []) (rowsChecks M W N (L .actions) (N .rows))
+-- 51: number not above, 52: location differs or value larger, 53: part not inside (each at its B word); n is the node's own number
+unfoldable pub partChecks : Table → ℕ → Node → Region → Successor → List Check
+partChecks W n N P s =
+    check 51 (s .place) (IsAbove n s) ∷
+    check 52 (s .place) (Matches W N s) ∷
+    check 53 (s .place) (HoldsPart W P s) ∷ []
 
--- node by node
-unfoldable pub nodesChecks : Model → Table → List Node → List Check
-nodesChecks M W [] = []
-nodesChecks M W (N ∷ Ns) = nodeChecks M W N ++ nodesChecks M W Ns
+-- per B word of a cut
+unfoldable pub cutChecks : Table → ℕ → Node → Cut → List Check
+cutChecks W n N c = partChecks W n N (holdingPart N (c .bound)) (c .holding) ++ partChecks W n N (restPart N (c .bound)) (c .rest)
+
+-- row by row, or in place of the row checks those of a cut
+unfoldable pub bodyChecks : Model → Table → ℕ → Node → List Action → Body → List Check
+bodyChecks M W n N As (rowsBody rs) = rowsChecks M W N As rs
+bodyChecks M W n N As (cutBody c) = cutChecks W n N c
+
+-- the node numbered n: at a target 15: value not V (its 9 word); at another its rows or its cut
+unfoldable pub nodeChecks : Model → Table → ℕ → Node → List Check
+nodeChecks M W n N =
+    let L : Location = locationAt M (N .location) in
+    cond (L .target) (check 15 (N .place) (HasWhole W N) ∷ []) (bodyChecks M W n N (L .actions) (N .body))
+
+-- node by node, the first numbered n
+unfoldable pub nodesChecks : Model → Table → ℕ → List Node → List Check
+nodesChecks M W n [] = []
+nodesChecks M W n (N ∷ Ns) = nodeChecks M W n N ++ nodesChecks M W (suc n) Ns
 
 -- last, at the C word, 20: wrong start location, 21: start valuations not inside
 unfoldable pub startChecks : Model → Table → List Check
@@ -67,7 +88,7 @@ startChecks M W =
     check 21 (W .place) (HoldsStart M W) ∷ []
 
 unfoldable pub tableChecks : Model → Table → List Check
-tableChecks M W = nodesChecks M W (W .nodes) ++ startChecks M W
+tableChecks M W = nodesChecks M W 0 (W .nodes) ++ startChecks M W
 
 -- ---- the call
 

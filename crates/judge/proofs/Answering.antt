@@ -40,9 +40,10 @@ use Rattle.acceptance.specs.Judging.{nodesChecks, certificateOf, Judged, Exactl
 use Rattle.judge.specs.Verdicts.{verdictAnswer}
 use Rattle.judge.specs.Reaching.{ActionsFit, enabledKept}
 use Rattle.judge.specs.Walk.{walked, WalkAsked}
-use Rattle.judge.specs.Deciding.{findingAnswer, HandsOn, startVerdict}
-use Rattle.judge.specs.declared.walk.Finding.{Finding}
-use Rattle.judge.specs.declared.walk.Finding.the-variants as finding
+use Rattle.judge.specs.Findings.{findingAnswer}
+use Rattle.judge.specs.Deciding.{HandsOn, startVerdict}
+use Rattle.judge.specs.declared.findings.Finding.{Finding}
+use Rattle.judge.specs.declared.findings.Finding.the-variants as finding
 use Rattle.acceptance.specs.declared.certificate.Certificate.{Certificate}
 use Rattle.judge.specs.declared.verdict.Verdict.{Verdict}
 use Rattle.acceptance.proofs.Exact.{exactly, promised}
@@ -156,10 +157,10 @@ module _ (words : List ℕ) (r : ModelRead) (es : List ℕ) (zs : List ℤ) (m :
       pub asked : StoresFit ns ys → WalkAsked list (enabledKept kept) k (t .count)
       asked rooms = walk-asked M list kept t k x good formed indexed shape (m .room) rooms
 
-      says : First (nodesChecks M W (W .nodes)) (λ (_ : Unit {0}). Unit {0}) (findingAnswer walks)
+      says : First (nodesChecks M W 0 (W .nodes)) (λ (_ : Unit {0}). Unit {0}) (findingAnswer walks)
       says = walk-first M list kept t k x good formed indexed shape (m .room)
 
-      -- 15 to 19
+      -- 15 to 19 and 51 to 53
       pub node-refused : (v : Verdict) → HandsOn (findingAnswer walks) (verdictAnswer v) → (walks ≡ finding.None → ⊥) →
           Judged words list (verdictAnswer v)
       node-refused v h n = node-handed words list model-holds words-hold walks v says h n
@@ -209,8 +210,8 @@ module _ (words : List ℕ) (r : ModelRead) (es : List ℕ) (zs : List ℤ) (m :
       unfolding findingAnswer
       start-judged f =
           start-handed words list model-holds words-hold
-          (first-holds (nodesChecks M W (W .nodes)) (λ (_ : Unit {0}). Unit {0}) tt
-          (subst (λ a. First (nodesChecks M W (W .nodes)) (λ (_ : Unit {0}). Unit {0}) (findingAnswer a)) f says) .0)
+          (first-holds (nodesChecks M W 0 (W .nodes)) (λ (_ : Unit {0}). Unit {0}) tt
+          (subst (λ a. First (nodesChecks M W 0 (W .nodes)) (λ (_ : Unit {0}). Unit {0}) (findingAnswer a)) f says) .0)
           (startAt r t k)
           (start-first M W (r .index .start) (r .initial) (startEntry t k) (zoneAt ys (t .start)) (t .place) (certificateAt t k)
           (x .start) (start-is .location) (indexed .place) certificate-is filled-yes filled-no)

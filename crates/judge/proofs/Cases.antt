@@ -29,7 +29,8 @@ use Rattle.table.specs.Index as index
 use Rattle.acceptance.specs.Judging.{Judged}
 use Rattle.judge.specs.Verdicts.{verdictAnswer}
 use Rattle.judge.specs.Reaching.{withLanding, withLandings, enabledSquare, enabledBelow, enabledKeys, waitedSquare, reachSquare}
-use Rattle.judge.specs.Walk.{successorFinding, successorOutcome, orElse, successorsFrom, rowsFrom, nodeFinding, nodesFrom, walked}
+use Rattle.judge.specs.Findings.{orElse}
+use Rattle.judge.specs.Walk.{successorFinding, successorOutcome, successorsFrom, rowsFrom, rowsFinding, nodeFinding, nodesFrom, walked}
 use Rattle.judge.specs.Deciding.{startVerdict}
 use Rattle.acceptance.specs.declared.certificate.Certificate.{Certificate}
 use Rattle.acceptance.proofs.CountLaws.{timeline}
@@ -73,8 +74,8 @@ unfolding
     wholeAnswer faultAnswer answerOf fields.fields? reading.limit? scan.rowsAllowKind? scan.rowsAllowAt? scan.fieldsAt? scan.limitAt? scan.faultAt
     scan.lastFault scan.firstRow scan.endRow scan.rowsAt scan.edgesAt scan.rowSize scan.sizeAt scan.seenWithKind scan.seenWith entryAt putEntry
     index.keptWithKind index.keptWith index.unlessFault index.scanFrom index.scanned index.numbersAnswer index.answerOf withLanding withLandings
-    enabledSquare enabledBelow enabledKeys waitedSquare reachSquare successorFinding successorOutcome orElse successorsFrom rowsFrom nodeFinding
-    nodesFrom walked startVerdict verdictAnswer behindModel behindWords behindNodes judged judgedBehind judgedFrom computed
+    enabledSquare enabledBelow enabledKeys waitedSquare reachSquare successorFinding successorOutcome orElse successorsFrom rowsFrom
+    rowsFinding nodeFinding nodesFrom walked startVerdict verdictAnswer behindModel behindWords behindNodes judged judgedBehind judgedFrom computed
 answers = (refl, refl, refl, refl, refl, refl, refl, refl)
 
 -- what is computed is the answer

@@ -32,9 +32,9 @@ use Rattle.acceptance.specs.Judging.{Judged}
 use Rattle.judge.specs.Verdicts.{verdictAnswer}
 use Rattle.judge.specs.Reaching.{enabledKept}
 use Rattle.judge.specs.Walk.{walked}
-use Rattle.judge.specs.Deciding.{findingAnswer}
-use Rattle.judge.specs.declared.walk.Finding.{Finding}
-use Rattle.judge.specs.declared.walk.Finding.the-variants as finding
+use Rattle.judge.specs.Findings.{findingAnswer}
+use Rattle.judge.specs.declared.findings.Finding.{Finding}
+use Rattle.judge.specs.declared.findings.Finding.the-variants as finding
 use Rattle.judge.specs.declared.verdict.Verdict.{Verdict}
 use Rattle.judge.specs.declared.verdict.Verdict.the-variants as verdict
 use Rattle.judge.proofs.Handing.{hands}
@@ -64,6 +64,9 @@ behindNodes (finding.NotBlocked p) v = verdict.NotBlocked p
 behindNodes (finding.WrongLocation p) v = verdict.WrongLocation p
 behindNodes (finding.NotInside p) v = verdict.NotInside p
 behindNodes (finding.SumTooLarge p) v = verdict.SumTooLarge p
+behindNodes (finding.PartNotAbove p) v = verdict.PartNotAbove p
+behindNodes (finding.PartMismatch p) v = verdict.PartMismatch p
+behindNodes (finding.PartNotInside p) v = verdict.PartNotInside p
 
 -- stores of zeros for a table
 abbrev noNodes : List ℕ
@@ -133,6 +136,9 @@ module _ (words list : List ℕ) (r : ModelRead) (es : List ℕ) (zs : List ℤ)
       by-finding (finding.WrongLocation p) q = found (finding.WrongLocation p) (verdict.WrongLocation p) 17 p q refl refl
       by-finding (finding.NotInside p) q = found (finding.NotInside p) (verdict.NotInside p) 18 p q refl refl
       by-finding (finding.SumTooLarge p) q = found (finding.SumTooLarge p) (verdict.SumTooLarge p) 19 p q refl refl
+      by-finding (finding.PartNotAbove p) q = found (finding.PartNotAbove p) (verdict.PartNotAbove p) 51 p q refl refl
+      by-finding (finding.PartMismatch p) q = found (finding.PartMismatch p) (verdict.PartMismatch p) 52 p q refl refl
+      by-finding (finding.PartNotInside p) q = found (finding.PartNotInside p) (verdict.PartNotInside p) 53 p q refl refl
 
     ill : (a : TableAnswer) (v : Verdict) (n p : ℕ) → t .answer ≡ a → tableAnswer a ≡ refused n p → verdictAnswer v ≡ refused n p → Right v
     ill a v n p q b d =

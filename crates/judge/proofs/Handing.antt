@@ -16,9 +16,10 @@ use Rattle.table.specs.declared.read.TableAnswer.{TableAnswer}
 use Rattle.table.specs.declared.read.TableAnswer.the-variants as table
 use Rattle.acceptance.specs.Judging.{nodesChecks, startChecks, tableChecks, judgeChecks, certificateOf, Judged}
 use Rattle.judge.specs.Verdicts.{verdictAnswer}
-use Rattle.judge.specs.Deciding.{findingAnswer, HandsOn}
-use Rattle.judge.specs.declared.walk.Finding.{Finding}
-use Rattle.judge.specs.declared.walk.Finding.the-variants as finding
+use Rattle.judge.specs.Findings.{findingAnswer}
+use Rattle.judge.specs.Deciding.{HandsOn}
+use Rattle.judge.specs.declared.findings.Finding.{Finding}
+use Rattle.judge.specs.declared.findings.Finding.the-variants as finding
 use Rattle.acceptance.specs.declared.certificate.Certificate.{Certificate}
 use Rattle.judge.specs.declared.verdict.Verdict.{Verdict}
 
@@ -58,6 +59,9 @@ finding-refuses (finding.NotBlocked p) h = refuses 16 p
 finding-refuses (finding.WrongLocation p) h = refuses 17 p
 finding-refuses (finding.NotInside p) h = refuses 18 p
 finding-refuses (finding.SumTooLarge p) h = refuses 19 p
+finding-refuses (finding.PartNotAbove p) h = refuses 51 p
+finding-refuses (finding.PartMismatch p) h = refuses 52 p
+finding-refuses (finding.PartNotInside p) h = refuses 53 p
 
 -- the same refusal
 pub hands : {A B : Type 0} {a : Answer A} {b : Answer B} (n p : ℕ) → a ≡ refused n p → b ≡ refused n p → HandsOn a b
@@ -115,18 +119,18 @@ module _ (words list : List ℕ) where
             (first-join (readChecks M list) (tableChecks M W) Right (verdictAnswer v) words-hold f);
       }
 
-      -- 15 to 19
-      pub node-handed : (f : Finding) (v : Verdict) → First (nodesChecks M W (W .nodes)) (λ (_ : Unit {0}). Unit {0}) (findingAnswer f) →
+      -- 15 to 19 and 51 to 53
+      pub node-handed : (f : Finding) (v : Verdict) → First (nodesChecks M W 0 (W .nodes)) (λ (_ : Unit {0}). Unit {0}) (findingAnswer f) →
           HandsOn (findingAnswer f) (verdictAnswer v) → (f ≡ finding.None → ⊥) → Judged words list (verdictAnswer v)
       unfolding tableChecks
       node-handed f v walks h r =
           behind v
-          (handed (nodesChecks M W (W .nodes)) (startChecks M W) (λ (_ : Unit {0}). Unit {0}) Right (findingAnswer f) (verdictAnswer v)
+          (handed (nodesChecks M W 0 (W .nodes)) (startChecks M W) (λ (_ : Unit {0}). Unit {0}) Right (findingAnswer f) (verdictAnswer v)
           (finding-refuses f r) h walks)
 
       -- 20 and 21
-      pub start-handed : AllHold (nodesChecks M W (W .nodes)) → (v : Verdict) → First (startChecks M W) Right (verdictAnswer v) →
+      pub start-handed : AllHold (nodesChecks M W 0 (W .nodes)) → (v : Verdict) → First (startChecks M W) Right (verdictAnswer v) →
           Judged words list (verdictAnswer v)
       unfolding tableChecks
       start-handed nodes-hold v f =
-          behind v (first-join (nodesChecks M W (W .nodes)) (startChecks M W) Right (verdictAnswer v) nodes-hold f)
+          behind v (first-join (nodesChecks M W 0 (W .nodes)) (startChecks M W) Right (verdictAnswer v) nodes-hold f)

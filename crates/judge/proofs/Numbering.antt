@@ -33,7 +33,10 @@ verdictOf (refused n p) =
     (cond (eqb n 17) (verdict.WrongLocation p)
     (cond (eqb n 18) (verdict.NotInside p)
     (cond (eqb n 19) (verdict.SumTooLarge p)
-    (cond (eqb n 20) (verdict.WrongStart p) (verdict.StartNotInside p))))))))))))))))
+    (cond (eqb n 20) (verdict.WrongStart p)
+    (cond (eqb n 21) (verdict.StartNotInside p)
+    (cond (eqb n 51) (verdict.PartNotAbove p)
+    (cond (eqb n 52) (verdict.PartMismatch p) (verdict.PartNotInside p)))))))))))))))))))
 
 -- case by case: a verdict is told from its answer, and its answer read back from its numbers, since no refusal has the number 0
 by-case : (v : Verdict) → (verdictOf (verdictAnswer v) ≡ v) × (numberedAnswer (numbered (verdictAnswer v)) ≡ verdictAnswer v)
@@ -56,6 +59,9 @@ by-case (verdict.NotInside p) = (refl, refl)
 by-case (verdict.SumTooLarge p) = (refl, refl)
 by-case (verdict.WrongStart p) = (refl, refl)
 by-case (verdict.StartNotInside p) = (refl, refl)
+by-case (verdict.PartNotAbove p) = (refl, refl)
+by-case (verdict.PartMismatch p) = (refl, refl)
+by-case (verdict.PartNotInside p) = (refl, refl)
 
 pub told : (v : Verdict) → verdictOf (verdictAnswer v) ≡ v
 told v = by-case v .0

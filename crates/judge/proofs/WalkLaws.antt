@@ -12,7 +12,7 @@ use Rattle.zone.specs.Words.{kind}
 use Rattle.zone.specs.Squares.{empty?, Tightens}
 use Rattle.zone.specs.Stores.{zoneAt}
 use Rattle.zone.specs.declared.zones.Zone.{Zone as Square}
-use Rattle.model.specs.TableKinds.{blocked, tableNumber}
+use Rattle.model.specs.TableKinds.{blocked, cut, tableNumber}
 use Rattle.model.specs.Scan.{guardsAt}
 use Rattle.model.specs.Index.{Kept as ModelKept}
 use Rattle.table.specs.Fields.{numberOf}
@@ -22,22 +22,15 @@ use Rattle.table.specs.Index.{Kept}
 use Rattle.table.specs.declared.nodes.NodeEntry.{NodeEntry}
 use Rattle.table.specs.declared.read.TableRead.{TableRead}
 use Rattle.judge.specs.Reaching.{EdgesFit, waitedSquare, reachSquare}
-use Rattle.judge.specs.Walk.{successorOutcome, orElse, successorsFrom, rowsFrom, nodeFinding, nodesFrom, walked}
-use Rattle.judge.specs.Walk.{RowsInRange, NodeInRange}
-use Rattle.judge.specs.declared.walk.Finding.{Finding}
-use Rattle.judge.specs.declared.walk.Finding.the-variants as finding
+use Rattle.judge.specs.Findings.{orElse}
+use Rattle.judge.specs.Cutting.{cutFinding, CutAsked}
+use Rattle.judge.specs.Walk.{successorOutcome, successorsFrom, rowsFrom, rowsFinding, nodeFinding, nodesFrom, walked}
+use Rattle.judge.specs.Walk.{RowsInRange, NodeInRange, BodyInRange}
+use Rattle.judge.specs.declared.findings.Finding.{Finding}
+use Rattle.judge.specs.declared.findings.Finding.the-variants as finding
 use Rattle.judge.specs.declared.walk.Outcome.{Outcome}
+use Rattle.judge.proofs.FindingLaws.{found-first}
 use Rattle.judge.proofs.ReachSizes.{waited-tightens}
-
--- a finding stands, whatever comes behind it
-found-first : (f g : Finding) → (f ≡ finding.None → ⊥) → f ≡ orElse f g
-unfolding orElse
-found-first finding.None g n = absurd (n refl)
-found-first (finding.BadTargetValue p) g n = refl
-found-first (finding.NotBlocked p) g n = refl
-found-first (finding.WrongLocation p) g n = refl
-found-first (finding.NotInside p) g n = refl
-found-first (finding.SumTooLarge p) g n = refl
 
 not-true : (b : Bool) → not b ≡ true → b ≡ false
 not-true true e = sym e
@@ -127,25 +120,47 @@ module _ (words : List ℕ) (m : ModelKept) (k : Kept) where
       unfolding nodeFinding
       target-bad q = rw (← e, target, ne-eqb _ _ q)
 
-    -- a node whose location is no target
-    module _ {first last : ℕ} (un : getD (m .index .targets) (N .location) false ≡ false) (ef : first ≡ getD (m .index .actions) (N .location) 0)
-        (el : last ≡ getD (m .index .actions) (N .location + 1) 0) where
-      pub no-rows : first ≡ last → finding.None ≡ nodeFinding words m k whole n
-      unfolding nodeFinding rowsFrom
-      no-rows q =
-          let none : getD (m .index .actions) (N .location + 1) 0 - getD (m .index .actions) (N .location) 0 ≡ 0 = omega arith in
-          rw (← e, un, none)
-
-      pub node-rows : {y i waited : Square} → NodeInRange words m k n → y ≡ zoneAt (k .zones) n → i ≡ zoneAt (m .zones) (N .location) →
-          waited ≡ waitedSquare y i → AtRow (nodeFinding words m k whole n) waited (N .value) last finding.None (N .place + 1) first
+    -- a node whose location is no target, cut or not
+    module _ (un : getD (m .index .targets) (N .location) false ≡ false) where
+      pub node-cut : kind (getD words (N .place + 1) 0) ≡ tableNumber cut → cutFinding words k n (N .place + 1) ≡ nodeFinding words m k whole n
       unfolding nodeFinding
-      node-rows fit ey ei ew = rw (add-one (N .place), ew, ey, ei, ef, el) (record {
-        none = refl;
-        tightens = waited-tightens (fit .zone) (rw (← e) at (fit .invariant));
-        limit = rw (← e) at (fit .actions);
-        fits = rw (← e) at (fit .rows);
-        onward = rw (← e, un);
-      })
+      node-cut q = let c = eq-eqb _ _ q in rw (← e, un, ← add-one (N .place), c)
+
+      pub node-uncut : (kind (getD words (N .place + 1) 0) ≡ tableNumber cut → ⊥) → rowsFinding words m k n ≡ nodeFinding words m k whole n
+      unfolding nodeFinding
+      node-uncut q = let c = ne-eqb _ _ q in rw (← e, un, ← add-one (N .place), c)
+
+  -- the words behind the value of a node
+  module _ (n : ℕ) {N : NodeEntry} (e : N ≡ entryAt (k .nodes) n) (b : BodyInRange words m k n) where
+    pub behind-there : N .place + 1 < length words
+    behind-there = rw (add-one (N .place), e) (b .there)
+
+    pub cut-there : kind (getD words (N .place + 1) 0) ≡ tableNumber cut → CutAsked words k n (N .place + 1)
+    cut-there q = let c = eq-eqb _ _ q in rw (add-one (N .place), e) (b .parts (rw (add-one (N .place), e) at c))
+
+    pub rows-there : (kind (getD words (N .place + 1) 0) ≡ tableNumber cut → ⊥) → NodeInRange words m k n
+    rows-there q = let c = ne-eqb _ _ q in b .rows (rw (add-one (N .place), e) at c)
+
+  -- the rows of a node
+  module _
+      (n : ℕ) {N : NodeEntry} (e : N ≡ entryAt (k .nodes) n) {first last : ℕ} (ef : first ≡ getD (m .index .actions) (N .location) 0)
+      (el : last ≡ getD (m .index .actions) (N .location + 1) 0) where
+    pub no-rows : first ≡ last → finding.None ≡ rowsFinding words m k n
+    unfolding rowsFinding rowsFrom
+    no-rows q =
+        let none : getD (m .index .actions) (N .location + 1) 0 - getD (m .index .actions) (N .location) 0 ≡ 0 = omega arith in
+        rw (← e, none)
+
+    pub node-rows : {y i waited : Square} → NodeInRange words m k n → y ≡ zoneAt (k .zones) n → i ≡ zoneAt (m .zones) (N .location) →
+        waited ≡ waitedSquare y i → AtRow (rowsFinding words m k n) waited (N .value) last finding.None (N .place + 1) first
+    unfolding rowsFinding
+    node-rows fit ey ei ew = rw (add-one (N .place), ew, ey, ei, ef, el) (record {
+      none = refl;
+      tightens = waited-tightens (fit .zone) (rw (← e) at (fit .invariant));
+      limit = rw (← e) at (fit .actions);
+      fits = rw (← e) at (fit .rows);
+      onward = rw (← e);
+    })
 
   module _ {goal : Finding} {waited : Square} {value last : ℕ} {f : Finding} {at a : ℕ} (i : AtRow goal waited value last f at a) where
     pub rows-end : last ≤ a → f ≡ goal

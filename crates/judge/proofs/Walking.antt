@@ -1,21 +1,22 @@
--- The walk decides the checks 15 to 19. Assumes nothing.
+-- The walk decides the checks 15 to 19, and 51 to 53 of cuts. Assumes nothing.
 use Prim.Native.Nat.{ℕ, suc, _+_, _-_, _*_, _≤_, _<_}
-use mathlib.Core.Path.{_≡_, refl, sym, ap, ap₂}
+use mathlib.Core.Path.{_≡_, refl, sym, ap, ap₂, _∙_}
 use mathlib.Core.Logic.{inl, inr}
-use mathlib.Core.Bool.{Bool, true, false, cond, _||_}
+use mathlib.Core.Bool.{Bool, true, false, cond, _&&_, _||_}
 use mathlib.Core.List.{List, [], _∷_, _++_}
 use native.Mathlib.Omega.{arith}
-use borrow.Author.Tests.{eqb-true, eqb-false, leb-true, leb-false}
-use lib.Dec.{eqb, leb}
+use borrow.Author.Tests.{eqb-true, eqb-false, eq-eqb, leb-true, leb-false, le-leb, ltb-true, ltb-false}
+use lib.Dec.{eqb, leb, ltb}
 use lib.ListN.{getD, length, drop}
-use Rattle.zone.specs.Scale.{Zone, within, Empty, Inside}
+use Rattle.zone.specs.Scale.{Zone, Region, within, Empty, Inside}
 use Rattle.zone.specs.Moves.{ResetOf}
 use Rattle.zone.specs.Checks.{refused, Check, check, First}
 use Rattle.zone.specs.Squares.{universe, resetSquare, empty?, inside?}
 use Rattle.zone.specs.Stores.{zoneAt}
 use Rattle.zone.specs.declared.zones.Zone.{Zone as Square}
+use Rattle.zone.proofs.Bools.{true-false, left-true, right-true}
 use Rattle.zone.proofs.CheckLaws.{first-join, first-before, first-holds}
-use Rattle.model.specs.TableKinds.{blocked, isTable}
+use Rattle.model.specs.TableKinds.{blocked, cut, isTable}
 use Rattle.model.specs.Fields.{maskOf, landsAt, weightOf}
 use Rattle.model.specs.Scan.{guardsAt}
 use Rattle.model.specs.Model.{Edge, Action, Location, Model, edgeOf}
@@ -27,21 +28,24 @@ use Rattle.model.proofs.GoodModel.{GoodModel}
 use Rattle.model.proofs.WellFormed.{WellFormed}
 use Rattle.model.proofs.IndexLaws.{location-at}
 use Rattle.table.specs.Fields.{numberOf}
-use Rattle.table.specs.Table.{Successor, blockedRow, successorRow, Node, Table, nodeAt, successorsOf, rowsOf, rowActions, tableOf}
+use Rattle.table.specs.Table.{Successor, blockedRow, successorRow, rowsBody, cutBody, Node, Table, nodeAt}
+use Rattle.table.specs.Table.{successorsOf, rowsOf, cutOf, rowActions, bodyOf, tableOf}
 use Rattle.table.specs.Scan.{edgesAt, rowSize}
 use Rattle.table.specs.Index.{Kept}
 use Rattle.table.specs.Indexed.{NodeIs, TableIndexed}
 use Rattle.table.specs.declared.read.TableRead.{TableRead}
-use Rattle.table.proofs.Shape.{RowStands, RowsStand, NodeShaped, Shaped}
-use Rattle.acceptance.specs.Acceptance.{Reach, HasLocation, HoldsReach, worth, rowSum}
-use Rattle.acceptance.specs.Judging.{successorChecks, rowChecks, rowsChecks, nodeChecks, nodesChecks}
+use Rattle.table.proofs.Shape.{RowStands, RowsStand, CutStands, BodyStands, NodeShaped, Shaped}
+use Rattle.acceptance.specs.Acceptance.{Reach, HasLocation, HoldsReach, worth, rowSum, Matches}
+use Rattle.acceptance.specs.Judging.{successorChecks, rowChecks, rowsChecks, partChecks, cutChecks, bodyChecks, nodeChecks, nodesChecks}
 use Rattle.judge.specs.Reaching.{enabledKept, waitedSquare, reachSquare}
-use Rattle.judge.specs.Walk.{successorFinding, successorOutcome, orElse, successorsFrom, rowsFrom, nodeFinding, nodesFrom, walked}
-use Rattle.judge.specs.Deciding.{findingAnswer}
-use Rattle.judge.specs.declared.walk.Finding.{Finding}
-use Rattle.judge.specs.declared.walk.Finding.the-variants as finding
-use Rattle.judge.proofs.RowLaws.{front, behind, node-at, shaped-at, ActionIs, actions-fit, actions-at, actions-count, edges-at}
+use Rattle.judge.specs.Findings.{orElse, findingAnswer}
+use Rattle.judge.specs.Cutting.{partFinding, cutFinding}
+use Rattle.judge.specs.Walk.{successorFinding, successorOutcome, successorsFrom, rowsFrom, rowsFinding, nodeFinding, nodesFrom, walked}
+use Rattle.judge.specs.declared.findings.Finding.{Finding}
+use Rattle.judge.specs.declared.findings.Finding.the-variants as finding
+use Rattle.judge.proofs.RowLaws.{front, beyond, behind, node-at, shaped-at, ActionIs, actions-fit, actions-at, actions-count, edges-at}
 use Rattle.judge.proofs.LandingLaws.{enabled-invariant, enabled-at}
+use Rattle.judge.proofs.PartLaws.{Decides, holding-decides, rest-decides}
 use Rattle.judge.proofs.RowReach.{blocked-yes, blocked-no, onward-yes, onward-no}
 
 -- what checks in an order find: the first that does not hold
@@ -57,23 +61,21 @@ finds-first cs ds (finding.NotBlocked p) g h i = record { says = first-before cs
 finds-first cs ds (finding.WrongLocation p) g h i = record { says = first-before cs ds _ _ 17 p (h .says) }
 finds-first cs ds (finding.NotInside p) g h i = record { says = first-before cs ds _ _ 18 p (h .says) }
 finds-first cs ds (finding.SumTooLarge p) g h i = record { says = first-before cs ds _ _ 19 p (h .says) }
+finds-first cs ds (finding.PartNotAbove p) g h i = record { says = first-before cs ds _ _ 51 p (h .says) }
+finds-first cs ds (finding.PartMismatch p) g h i = record { says = first-before cs ds _ _ 52 p (h .says) }
+finds-first cs ds (finding.PartNotInside p) g h i = record { says = first-before cs ds _ _ 53 p (h .says) }
 
--- a test that decides whether a check holds
+-- no check finds nothing
+none-found : Finds [] finding.None
+unfolding findingAnswer
+none-found = record { says = tt }
+
+-- a test that decides whether a check holds, in front of others
 decides :
-    {c : Check} (b : Bool) (f : Finding) → (b ≡ true → c .holds) → (b ≡ false → c .holds → ⊥) →
-    findingAnswer f ≡ refused (c .number) (c .place) → Finds (c ∷ []) (cond b finding.None f)
-unfolding findingAnswer
-decides true f pass fail e = record { says = inl (pass refl, tt) }
-decides false f pass fail e = record { says = inr (fail refl, e) }
-
--- the same for the two checks of a successor
-decides-both :
-    {p : ℕ} {X Y : Type 0} (b d : Bool) → (b ≡ true → X) → (b ≡ false → X → ⊥) → (d ≡ true → Y) → (d ≡ false → Y → ⊥) →
-    Finds (check 17 p X ∷ check 18 p Y ∷ []) (cond b (cond d finding.None (finding.NotInside p)) (finding.WrongLocation p))
-unfolding findingAnswer
-decides-both true true x nx y ny = record { says = inl (x refl, inl (y refl, tt)) }
-decides-both true false x nx y ny = record { says = inl (x refl, inr (ny refl, refl)) }
-decides-both false d x nx y ny = record { says = inr (nx refl, refl) }
+    {c : Check} {cs : List Check} (b : Bool) (f g : Finding) → (b ≡ true → c .holds) → (b ≡ false → c .holds → ⊥) →
+    findingAnswer f ≡ refused (c .number) (c .place) → Finds cs g → Finds (c ∷ cs) (cond b g f)
+decides true f g pass fail e h = record { says = inl (pass refl, h .says) }
+decides false f g pass fail e h = record { says = inr (fail refl, e) }
 
 -- the same checks and finding, written in another way
 found-as : {cs ds : List Check} {f g : Finding} → Finds cs f → ds ≡ cs → g ≡ f → Finds ds g
@@ -129,15 +131,16 @@ module _ (M : Model) (words : List ℕ) (m : ModelKept) (t : TableRead) (k : Kep
         let S : Successor = record { node = s; place = p } in
         Finds (check 17 p (HasLocation W E S) ∷ check 18 p (HoldsReach M W N A E S) ∷ [])
         (successorOutcome reach (empty? reach) w k s p .finding)
-    unfolding successorFinding successorOutcome
+    unfolding successorFinding successorOutcome findingAnswer
     successor-found w s p E e l =
         let to : landsAt w ≡ E .to = ap (λ (E : Edge). E .to) e in
         let mask : maskOf w ≡ E .mask = ap (λ (E : Edge). E .mask) e in
         let S : Zone = nodeAt W s .zone in
         rw (node-at i s l .location, node-at i s l .zone, to, mask)
-        (decides-both (eqb (nodeAt W s .location) (E .to)) (empty? reach || inside? (resetSquare (E .mask) reach) (withBounds S universe))
-        (eqb-true (nodeAt W s .location) (E .to)) (eqb-false (nodeAt W s .location) (E .to)) (z .onward-pass (E .mask) S (shaped-at sh s l .zone))
-        (z .onward-fail (E .mask) S (shaped-at sh s l .zone)))
+        (decides (eqb (nodeAt W s .location) (E .to)) (finding.WrongLocation p) _ (eqb-true (nodeAt W s .location) (E .to))
+        (eqb-false (nodeAt W s .location) (E .to)) refl
+        (decides (empty? reach || inside? (resetSquare (E .mask) reach) (withBounds S universe)) (finding.NotInside p) _
+        (z .onward-pass (E .mask) S (shaped-at sh s l .zone)) (z .onward-fail (E .mask) S (shaped-at sh s l .zone)) refl none-found))
 
     share-is : (b : Bool) (w s p : ℕ) (E : Edge) → edgeOf w ≡ E → s < length (W .nodes) →
         successorOutcome reach b w k s p .share ≡ E .weight * nodeAt W s .value
@@ -156,8 +159,8 @@ module _ (M : Model) (words : List ℕ) (m : ModelKept) (t : TableRead) (k : Kep
     unfolding Each successorChecks successorsOf successorsFrom worth rowSum findingAnswer
     successors-found limit first total [] e at sum ws x d l q =
         let same : total ≡ sum = omega arith in
-        rw (← same) (decides (leb total limit) (finding.SumTooLarge first) (leb-true total limit)
-        (λ b h. let g : limit < total = leb-false total limit b in omega arith) refl)
+        rw (← same) (decides (leb total limit) (finding.SumTooLarge first) _ (leb-true total limit)
+        (λ b h. let g : limit < total = leb-false total limit b in omega arith) refl none-found)
     successors-found limit first total (E ∷ Es) e at sum ws x d l q =
         let w : ℕ = getD (m .edges) e 0 in
         let s : ℕ = numberOf (getD ws 0 0) in
@@ -224,7 +227,7 @@ module _ (M : Model) (words : List ℕ) (m : ModelKept) (t : TableRead) (k : Kep
     unfolding rowChecks RowStands findingAnswer
     row-found true a A at ws y d s =
         let z = reached a A y in
-        decides _ (finding.NotBlocked at) (z .blocked-pass) (z .blocked-fail) refl
+        decides _ (finding.NotBlocked at) _ (z .blocked-pass) (z .blocked-fail) refl none-found
     row-found false a A at ws y d s =
         let Es : List Edge = A .edges in
         let total : ℕ = rowSum W Es (successorsOf (length Es) at ws) in
@@ -247,10 +250,49 @@ module _ (M : Model) (words : List ℕ) (m : ModelKept) (t : TableRead) (k : Kep
         (ap (rowsChecks M W N (A ∷ As)) (rows-split A As at ws))
         (rows-walked (length As) a at (getD ws 0 0) n (front at words ws d) (edges-at (y .0 .at)))
 
+  -- ---- the cut of a node
+  module _ (n : ℕ) (N : Node) (y : NodeIs k n N) (g : NodeShaped M W words N) where
+    -- the successor has the node's location and no larger value
+    abbrev matches? : ℕ → Bool
+    matches? s = eqb (nodeAt W s .location) (N .location) && leb (nodeAt W s .value) (N .value)
+
+    matches-yes : (s p : ℕ) → matches? s ≡ true → Matches W N (record { node = s; place = p })
+    matches-yes s p e = record {
+      location = eqb-true _ _ (left-true (eqb (nodeAt W s .location) (N .location)) _ e);
+      value = leb-true _ _ (right-true (eqb (nodeAt W s .location) (N .location)) _ e);
+    }
+
+    matches-no : (s p : ℕ) → matches? s ≡ false → Matches W N (record { node = s; place = p }) → ⊥
+    matches-no s p e h =
+        let same : eqb (nodeAt W s .location) (N .location) ≡ true = eq-eqb _ _ (h .location) in
+        let below : leb (nodeAt W s .value) (N .value) ≡ true = le-leb _ _ (h .value) in
+        true-false (rw (same, below) at e)
+
+    part-found :
+        (P : Region) (z : Square) → Decides P z → (s p : ℕ) → s < length (W .nodes) →
+        Finds (partChecks W n N P (record { node = s; place = p })) (partFinding k z n s p)
+    unfolding partChecks partFinding findingAnswer
+    part-found P z d s p l =
+        let S : Zone = nodeAt W s .zone in
+        rw (y .location, y .value, node-at i s l .location, node-at i s l .value, node-at i s l .zone)
+        (decides (ltb n s) (finding.PartNotAbove p) _ (ltb-true n s) (λ b h. omega (arith, ltb-false n s b)) refl
+        (decides (matches? s) (finding.PartMismatch p) _ (matches-yes s p) (matches-no s p) refl
+        (decides (empty? z || inside? z (withBounds S universe)) (finding.PartNotInside p) _ (d .pass S (shaped-at sh s l .zone))
+        (d .fail S (shaped-at sh s l .zone)) refl none-found)))
+
+    -- the words ws of the cut stand at the place `at`
+    cut-found : (at : ℕ) (ws : List ℕ) → drop at words ≡ ws → CutStands (length (W .nodes)) (locationAt M (N .location)) ws →
+        Finds (cutChecks W n N (cutOf at ws)) (cutFinding words k n at)
+    unfolding cutChecks cutOf cutFinding
+    cut-found at ws e c =
+        rw (front at words ws e, beyond 1 at words ws e, beyond 2 at words ws e, y .zone)
+        (finds-first _ _ _ _ (part-found _ _ (holding-decides N (g .zone) (getD ws 0 0) (c .bound)) _ _ (c .holding))
+        (part-found _ _ (rest-decides N (g .zone) (getD ws 0 0) (c .bound)) _ _ (c .rest)))
+
   -- ---- the nodes
 
-  node-found : (n : ℕ) (N : Node) → NodeIs k n N → NodeShaped M W words N → Finds (nodeChecks M W N) (nodeFinding words enabled k (t .whole) n)
-  unfolding nodeChecks nodeFinding rowActions findingAnswer
+  node-found : (n : ℕ) (N : Node) → NodeIs k n N → NodeShaped M W words N → Finds (nodeChecks M W n N) (nodeFinding words enabled k (t .whole) n)
+  unfolding nodeChecks bodyChecks nodeFinding rowsFinding findingAnswer rowActions bodyOf BodyStands
   node-found n N y g =
       rw (
         y .location,
@@ -261,10 +303,14 @@ module _ (M : Model) (words : List ℕ) (m : ModelKept) (t : TableRead) (k : Kep
         at .target,
         i .whole,
         actions-count M m x good formed (N .location) (g .exists),
+        front (suc (N .place)) words ws refl,
       ) (by (L .target) refl)
     where
       L : Location
       L = locationAt M (N .location)
+
+      ws : List ℕ
+      ws = drop (suc (N .place)) words
 
       at : LocationAt m (N .location) L
       at = location-at x (N .location) (g .exists)
@@ -272,20 +318,31 @@ module _ (M : Model) (words : List ℕ) (m : ModelKept) (t : TableRead) (k : Kep
       in-slots : N .location < 16
       in-slots = omega (arith, g .exists, x .locations, x .limit)
 
-      by : (b : Bool) → L .target ≡ b →
-          Finds (cond b (check 15 (N .place) (N .value ≡ W .whole) ∷ []) (rowsChecks M W N (L .actions) (N .rows)))
-          (cond b (cond (eqb (N .value) (W .whole)) finding.None (finding.BadTargetValue (N .place)))
+      -- the cut, or the rows
+      body : (c : Bool) → L .target ≡ false → BodyStands (length (W .nodes)) c L ws →
+          Finds
+          (bodyChecks M W n N (L .actions)
+          (cond c (cutBody (cutOf (suc (N .place)) ws)) (rowsBody (rowsOf (rowActions L) (suc (N .place)) ws))))
+          (cond c (cutFinding words k n (suc (N .place)))
           (rowsFrom words enabled k (waited N g) (N .value) (length (L .actions)) (getD (m .index .actions) (N .location) 0) (suc (N .place))))
-      by true e = decides (eqb (N .value) (W .whole)) _ (eqb-true (N .value) (W .whole)) (eqb-false (N .value) (W .whole)) refl
-      by false e =
-          let rows : N .rows ≡ rowsOf (L .actions) (suc (N .place)) (drop (suc (N .place)) words) = rw e at (g .rows) in
-          let stands : RowsStand (length (W .nodes)) (L .actions) (drop (suc (N .place)) words) = rw e at (g .stands) in
-          found-as (rows-found N g (L .actions) _ (suc (N .place)) _ (actions-at M m x good formed (N .location) (g .exists)) refl stands)
-          (ap (rowsChecks M W N (L .actions)) rows) refl
+      body true e s = cut-found n N y g (suc (N .place)) ws refl s
+      body false e s =
+          let all : rowActions L ≡ L .actions = rw e in
+          found-as
+          (rows-found N g (L .actions) _ (suc (N .place)) ws (actions-at M m x good formed (N .location) (g .exists)) refl (rw all at s))
+          (ap (λ (As : List Action). rowsChecks M W N (L .actions) (rowsOf As (suc (N .place)) ws)) all) refl
+
+      by : (b : Bool) → L .target ≡ b →
+          Finds (cond b (check 15 (N .place) (N .value ≡ W .whole) ∷ []) (bodyChecks M W n N (L .actions) (N .body)))
+          (cond b (cond (eqb (N .value) (W .whole)) finding.None (finding.BadTargetValue (N .place)))
+          (cond (isTable cut (getD ws 0 0)) (cutFinding words k n (suc (N .place)))
+          (rowsFrom words enabled k (waited N g) (N .value) (length (L .actions)) (getD (m .index .actions) (N .location) 0) (suc (N .place)))))
+      by true e = decides (eqb (N .value) (W .whole)) _ _ (eqb-true (N .value) (W .whole)) (eqb-false (N .value) (W .whole)) refl none-found
+      by false e = found-as (body (isTable cut (getD ws 0 0)) e (g .stands)) (ap (bodyChecks M W n N (L .actions)) (g .body)) refl
 
   nodes-found :
       (Ns : List Node) (n : ℕ) → Each (NodeIs k) n Ns → All (NodeShaped M W words) Ns →
-      Finds (nodesChecks M W Ns) (nodesFrom words enabled k (t .whole) (length Ns) n)
+      Finds (nodesChecks M W n Ns) (nodesFrom words enabled k (t .whole) (length Ns) n)
   unfolding Each nodesChecks nodesFrom findingAnswer
   nodes-found [] n y empty = record { says = tt }
   nodes-found (N ∷ Ns) n y (more g gs) = finds-first _ _ _ _ (node-found n N (y .0) g) (nodes-found Ns (suc n) (y .1) gs)
@@ -293,7 +350,7 @@ module _ (M : Model) (words : List ℕ) (m : ModelKept) (t : TableRead) (k : Kep
 module _ (M : Model) (words : List ℕ) (m : ModelKept) (t : TableRead) (k : Kept) (x : Indexed M m) (good : GoodModel M) (formed : WellFormed M)
     (i : TableIndexed (tableOf M words) t k) (sh : Shaped M words (tableOf M words)) (room : ModelStoresFit (m .edges) (m .zones)) where
   pub walk-first :
-      First (nodesChecks M (tableOf M words) (tableOf M words .nodes)) (λ (_ : Unit {0}). Unit {0})
+      First (nodesChecks M (tableOf M words) 0 (tableOf M words .nodes)) (λ (_ : Unit {0}). Unit {0})
       (findingAnswer (walked words (enabledKept m) k t))
   unfolding walked
   walk-first =

@@ -3,24 +3,13 @@ use Prim.Native.Nat.{ℕ}
 use mathlib.Core.Path.{_≡_}
 use mathlib.Core.Bool.{cond}
 use lib.Dec.{eqb}
-use Rattle.zone.specs.Checks.{Answer, refused, accepted}
+use Rattle.zone.specs.Checks.{Answer, refused}
 use Rattle.zone.specs.Squares.{inside?}
 use Rattle.zone.specs.declared.zones.Zone.{Zone as Square}
 use Rattle.table.specs.declared.nodes.NodeEntry.{NodeEntry}
-use Rattle.judge.specs.declared.walk.Finding.{Finding}
-use Rattle.judge.specs.declared.walk.Finding.the-variants as finding
 use Rattle.acceptance.specs.declared.certificate.Certificate.{Certificate}
 use Rattle.judge.specs.declared.verdict.Verdict.{Verdict}
 use Rattle.judge.specs.declared.verdict.Verdict.the-variants as verdict
-
--- what each finding says in the document's numbers
-unfoldable pub findingAnswer : Finding → Answer (Unit {0})
-findingAnswer finding.None = accepted tt
-findingAnswer (finding.BadTargetValue p) = refused 15 p
-findingAnswer (finding.NotBlocked p) = refused 16 p
-findingAnswer (finding.WrongLocation p) = refused 17 p
-findingAnswer (finding.NotInside p) = refused 18 p
-findingAnswer (finding.SumTooLarge p) = refused 19 p
 
 -- the same refusal, handed on
 pub record HandsOn {A B : Type 0} (a : Answer A) (b : Answer B) : Type 0 where

@@ -1,6 +1,8 @@
 -- The definitions that the contracts of `judge` rest on: a verdict in document 01's numbers and values, then the algorithms.
 pub mod Verdicts
 pub mod Numbers
+pub mod Findings
 pub mod Reaching
+pub mod Cutting
 pub mod Walk
 pub mod Deciding

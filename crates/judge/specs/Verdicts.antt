@@ -1,5 +1,5 @@
--- Document 01, "The four calls and their refusals", and "Which form to use where": for each case of a verdict the document's number and values.
--- Assumes nothing.
+-- Document 01, "The four calls and their refusals", and "Which form to use where", and document 02, card 1: for each case of a verdict the
+-- document's number and values. Assumes nothing.
 use Rattle.zone.specs.Checks.{Answer, refused, accepted}
 use Rattle.acceptance.specs.declared.certificate.Certificate.{Certificate}
 use Rattle.judge.specs.declared.verdict.Verdict.{Verdict}
@@ -24,3 +24,6 @@ verdictAnswer (verdict.NotInside p) = refused 18 p
 verdictAnswer (verdict.SumTooLarge p) = refused 19 p
 verdictAnswer (verdict.WrongStart p) = refused 20 p
 verdictAnswer (verdict.StartNotInside p) = refused 21 p
+verdictAnswer (verdict.PartNotAbove p) = refused 51 p
+verdictAnswer (verdict.PartMismatch p) = refused 52 p
+verdictAnswer (verdict.PartNotInside p) = refused 53 p

@@ -1,14 +1,15 @@
--- Algorithm: the checks 15 to 19, node by node, row by row, successor by successor, up to the first that fails. Assumes nothing.
+-- Algorithm: the checks 15 to 19, node by node, row by row, successor by successor, up to the first that fails; 51 to 53 where a node is cut.
+-- Assumes nothing.
 use Prim.Native.Nat.{ℕ, zero, suc, _+_, _-_, _*_, _≤_, _<_}
 use mathlib.Core.Path.{_≡_}
-use mathlib.Core.Bool.{Bool, false, cond, _||_}
+use mathlib.Core.Bool.{Bool, true, false, cond, _||_}
 use mathlib.Core.List.{List}
 use lib.ListN.{getD, length}
 use lib.Dec.{eqb, leb}
 use Rattle.zone.specs.Squares.{resetSquare, empty?, inside?, Tightens}
 use Rattle.zone.specs.Stores.{zoneAt}
 use Rattle.zone.specs.declared.zones.Zone.{Zone as Square}
-use Rattle.model.specs.TableKinds.{blocked, isTable}
+use Rattle.model.specs.TableKinds.{blocked, cut, isTable}
 use Rattle.model.specs.Fields.{maskOf, landsAt, weightOf}
 use Rattle.model.specs.Scan.{guardsAt}
 use Rattle.model.specs.Index.{Kept as ModelKept, StoresFit as ModelStoresFit}
@@ -18,9 +19,11 @@ use Rattle.table.specs.Scan.{edgesAt, rowSize}
 use Rattle.table.specs.Index.{Kept as TableKept, StoresFit as TableStoresFit}
 use Rattle.table.specs.declared.nodes.NodeEntry.{NodeEntry}
 use Rattle.table.specs.declared.read.TableRead.{TableRead}
+use Rattle.judge.specs.Findings.{orElse}
 use Rattle.judge.specs.Reaching.{EdgesFit, waitedSquare, reachSquare}
-use Rattle.judge.specs.declared.walk.Finding.{Finding}
-use Rattle.judge.specs.declared.walk.Finding.the-variants as finding
+use Rattle.judge.specs.Cutting.{cutFinding, CutAsked}
+use Rattle.judge.specs.declared.findings.Finding.{Finding}
+use Rattle.judge.specs.declared.findings.Finding.the-variants as finding
 use Rattle.judge.specs.declared.walk.Outcome.{Outcome}
 
 -- 17 and 18: the edge of a word, and its successor of the location l with the zone z, at the place p; `empty` says whether the reach is
@@ -35,15 +38,6 @@ unfoldable pub successorOutcome : Square → Bool → ℕ → TableKept → ℕ 
 successorOutcome reach empty w k s p =
     let N : NodeEntry = entryAt (k .nodes) s in
     record { finding = successorFinding reach empty w (N .location) (zoneAt (k .zones) s) p; share = weightOf w * N .value }
-
--- the first finding
-unfoldable pub orElse : Finding → Finding → Finding
-orElse finding.None f = f
-orElse (finding.BadTargetValue p) f = finding.BadTargetValue p
-orElse (finding.NotBlocked p) f = finding.NotBlocked p
-orElse (finding.WrongLocation p) f = finding.WrongLocation p
-orElse (finding.NotInside p) f = finding.NotInside p
-orElse (finding.SumTooLarge p) f = finding.SumTooLarge p
 
 -- the table's words, what is kept of the model, with what each action asks in place of its guard, and what is kept of the table
 module _ (words : List ℕ) (m : ModelKept) (k : TableKept) where
@@ -65,16 +59,22 @@ module _ (words : List ℕ) (m : ModelKept) (k : TableKept) where
       (orElse (successorsFrom reach (empty? reach) (m .index .denominator * value) at edges (getD (m .index .edges) a 0) at 0)
       (rowsFrom waited value n (suc a) (at + edges)))
 
+  -- the rows of the node n
+  unfoldable pub rowsFinding : ℕ → Finding
+  rowsFinding n =
+      let N : NodeEntry = entryAt (k .nodes) n in
+      let l : ℕ = N .location in
+      let first : ℕ = getD (m .index .actions) l 0 in
+      rowsFrom (waitedSquare (zoneAt (k .zones) n) (zoneAt (m .zones) l)) (N .value) (getD (m .index .actions) (l + 1) 0 - first) first
+      (suc (N .place))
+
   -- the node n, in a table whose head gives V
   unfoldable pub nodeFinding : ℕ → ℕ → Finding
   nodeFinding whole n =
       let N : NodeEntry = entryAt (k .nodes) n in
-      let l : ℕ = N .location in
-      let first : ℕ = getD (m .index .actions) l 0 in
-      cond (getD (m .index .targets) l false)
+      cond (getD (m .index .targets) (N .location) false)
       (cond (eqb (N .value) whole) finding.None (finding.BadTargetValue (N .place)))
-      (rowsFrom (waitedSquare (zoneAt (k .zones) n) (zoneAt (m .zones) l)) (N .value) (getD (m .index .actions) (l + 1) 0 - first) first
-      (suc (N .place)))
+      (cond (isTable cut (getD words (suc (N .place)) 0)) (cutFinding words k n (suc (N .place))) (rowsFinding n))
 
   -- so many nodes from number n on
   unfoldable pub nodesFrom : ℕ → ℕ → ℕ → Finding
@@ -93,7 +93,7 @@ module _ (words : List ℕ) (m : ModelKept) (k : TableKept) where
       let size : ℕ = rowSize (isTable blocked (getD words at 0)) (edgesAt (m .index) a) in
       Tightens 1 (zoneAt (m .zones) (guardsAt + a)) × (at < length words) × (at + size ≤ length words) × RowsInRange n (suc a) (at + size)
 
-  -- the node n, where its location is no target
+  -- the rows of the node n
   pub record NodeInRange (n : ℕ) : Type 0 where
     pub zone : Tightens 2 (zoneAt (k .zones) n)
     pub invariant : Tightens 2 (zoneAt (m .zones) (entryAt (k .nodes) n .location))
@@ -109,11 +109,23 @@ module _ (words : List ℕ) (m : ModelKept) (k : TableKept) where
     pub table : TableStoresFit (k .nodes) (k .zones)
     pub edges : EdgesFit (m .index)
 
+  pub record RowsAsked (n : ℕ) : Type 0 where
+    pub stores : StoresAsked
+    pub number : n < 64
+    pub location : entryAt (k .nodes) n .location < 16
+    pub node : NodeInRange n
+
+  -- behind the value of the node n a word stands, where its location is no target: that of its cut, or not
+  pub record BodyInRange (n : ℕ) : Type 0 where
+    pub there : suc (entryAt (k .nodes) n .place) < length words
+    pub parts : isTable cut (getD words (suc (entryAt (k .nodes) n .place)) 0) ≡ true → CutAsked words k n (suc (entryAt (k .nodes) n .place))
+    pub rows : isTable cut (getD words (suc (entryAt (k .nodes) n .place)) 0) ≡ false → NodeInRange n
+
   pub record NodeAsked (n : ℕ) : Type 0 where
     pub stores : StoresAsked
     pub number : n < 64
     pub location : entryAt (k .nodes) n .location < 16
-    pub node : getD (m .index .targets) (entryAt (k .nodes) n .location) false ≡ false → NodeInRange n
+    pub node : getD (m .index .targets) (entryAt (k .nodes) n .location) false ≡ false → BodyInRange n
 
   -- so many nodes
   pub record WalkAsked (c : ℕ) : Type 0 where

@@ -55,5 +55,8 @@ pub fn in_numbers(verdict: Verdict) -> Numbered
         Verdict::SumTooLarge(place) => refusal(19, place),
         Verdict::WrongStart(place) => refusal(20, place),
         Verdict::StartNotInside(place) => refusal(21, place),
+        Verdict::PartNotAbove(place) => refusal(51, place),
+        Verdict::PartMismatch(place) => refusal(52, place),
+        Verdict::PartNotInside(place) => refusal(53, place),
     }
 }

@@ -4,10 +4,11 @@ ghost use Rattle.model.specs.Reading.{modelAnswer};
 ghost use Rattle.table.specs.Reading.{tableAnswer};
 ghost use Rattle.acceptance.specs.Judging.{Judged, Exactly, BoundsSchedulers};
 ghost use Rattle.judge.specs.Verdicts.{verdictAnswer};
-ghost use Rattle.judge.specs.Deciding.{findingAnswer, HandsOn, startVerdict};
+ghost use Rattle.judge.specs.Findings.{findingAnswer};
+ghost use Rattle.judge.specs.Deciding.{HandsOn, startVerdict};
+use crate::findings::Finding;
 use crate::reaching;
 use crate::walk;
-use crate::walk::Finding;
 use acceptance::certificate::Certificate;
 use model::places;
 use model::read as models;
@@ -37,6 +38,9 @@ pub enum Verdict {
     SumTooLarge(usize),
     WrongStart(usize),
     StartNotInside(usize),
+    PartNotAbove(usize),
+    PartMismatch(usize),
+    PartNotInside(usize),
 }
 
 // The refusal of a model, handed on.
@@ -77,6 +81,9 @@ pub(crate) fn node_refused(finding: Finding) -> Verdict
         Finding::WrongLocation(place) => Verdict::WrongLocation(place),
         Finding::NotInside(place) => Verdict::NotInside(place),
         Finding::SumTooLarge(place) => Verdict::SumTooLarge(place),
+        Finding::PartNotAbove(place) => Verdict::PartNotAbove(place),
+        Finding::PartMismatch(place) => Verdict::PartMismatch(place),
+        Finding::PartNotInside(place) => Verdict::PartNotInside(place),
         Finding::None => Verdict::SumTooLarge(0), // no refusal: never asked for
     }
 }

@@ -1,4 +1,4 @@
-// The walk over nodes, rows and successors, up to the first of the checks 15 to 19 that fails.
+// The walk over nodes, rows and successors, up to the first of the checks 15 to 19, or 51 to 53 of a cut, that fails.
 ghost use mathlib.Core.Path.{_≡_};
 ghost use Prim.Native.Nat.{_*_, _<_, _^_};
 ghost use Rattle.zone.specs.Stores.{zoneAt, HasSlot};
@@ -6,7 +6,10 @@ ghost use Rattle.model.specs.Fields.{weightOf};
 ghost use Rattle.model.specs.Index.{keep as keepModel};
 ghost use Rattle.table.specs.Index.{keep as keepTable};
 ghost use Rattle.table.specs.Nodes.{HasNode};
-ghost use Rattle.judge.specs.Walk.{successorFinding, successorOutcome, nodeFinding, walked, NodeAsked, WalkAsked};
+ghost use Rattle.judge.specs.Walk.{successorFinding, successorOutcome, rowsFinding, nodeFinding, walked};
+ghost use Rattle.judge.specs.Walk.{RowsAsked, NodeAsked, WalkAsked};
+use crate::cutting;
+use crate::findings::Finding;
 use crate::reaching;
 use model::fields as model_fields;
 use model::index::Index;
@@ -17,16 +20,6 @@ use table::nodes::NodeEntry;
 use table::read::TableRead;
 use zone::words;
 use zone::zones::Zone;
-
-// The first of the checks 15 to 19 that fails, and its place.
-pub(crate) enum Finding {
-    None,
-    BadTargetValue(usize),
-    NotBlocked(usize),
-    WrongLocation(usize),
-    NotInside(usize),
-    SumTooLarge(usize),
-}
 
 // What a successor comes to: the first of the checks 17 and 18 that it fails, and what its edge adds to the row's sum.
 pub(crate) struct Outcome {
@@ -89,29 +82,22 @@ pub(crate) fn successor(
     }
 }
 
-// Judges one node, row by row and successor by successor. The first check that fails leaves both loops, with its place. `guards` has the zones
-// of the model, with what each action asks in place of its guard (`enable`); V is `whole`.
-pub(crate) fn walk_node(
+// Judges the rows of a node, row by row and successor by successor. The first check that fails leaves both loops, with its place. `guards` has
+// the zones of the model, with what each action asks in place of its guard (`enable`).
+pub(crate) fn rows_finding(
     list: &[u32],
     index: Index,
     edges: &[u32],
     guards: &[i32],
-    whole: u32,
     nodes: &[usize],
     zones: &[i32],
     n: usize,
 ) -> Finding
-    requires { ⌜ NodeAsked (now list) (keepModel index (now edges) (now guards)) (keepTable (now nodes) (now zones)) n ⌝ }
-    ensures { λ r. ⌜ r ≡ nodeFinding (now (list .entry)) (keepModel index (now (edges .entry)) (now (guards .entry))) (keepTable (now (nodes .entry)) (now (zones .entry))) whole n ⌝ }
+    requires { ⌜ RowsAsked (now list) (keepModel index (now edges) (now guards)) (keepTable (now nodes) (now zones)) n ⌝ }
+    ensures { λ r. ⌜ r ≡ rowsFinding (now (list .entry)) (keepModel index (now (edges .entry)) (now (guards .entry))) (keepTable (now (nodes .entry)) (now (zones .entry))) n ⌝ }
 {
     let node = NodeEntry::load(nodes, n);
     let l = node.location as usize;
-    if index.targets[l] {
-        if node.value == whole {
-            return Finding::None;
-        }
-        return Finding::BadTargetValue(node.place);
-    }
     let first_action = index.actions[l] as usize;
     let end_action = index.actions[l + 1] as usize;
     if first_action == end_action {
@@ -152,6 +138,34 @@ pub(crate) fn walk_node(
         }
     }
     finding
+}
+
+// Judges one node: the value of a target, the cut, or the rows. V is `whole`.
+pub(crate) fn walk_node(
+    list: &[u32],
+    index: Index,
+    edges: &[u32],
+    guards: &[i32],
+    whole: u32,
+    nodes: &[usize],
+    zones: &[i32],
+    n: usize,
+) -> Finding
+    requires { ⌜ NodeAsked (now list) (keepModel index (now edges) (now guards)) (keepTable (now nodes) (now zones)) n ⌝ }
+    ensures { λ r. ⌜ r ≡ nodeFinding (now (list .entry)) (keepModel index (now (edges .entry)) (now (guards .entry))) (keepTable (now (nodes .entry)) (now (zones .entry))) whole n ⌝ }
+{
+    let node = NodeEntry::load(nodes, n);
+    if index.targets[node.location as usize] {
+        if node.value == whole {
+            return Finding::None;
+        }
+        return Finding::BadTargetValue(node.place);
+    }
+    let behind = node.place + 1;
+    if words::kind_of(list[behind]) == kinds::CUT {
+        return cutting::cut_finding(list, nodes, zones, n, behind);
+    }
+    rows_finding(list, index, edges, guards, nodes, zones, n)
 }
 
 // Judges node by node.

@@ -4,6 +4,7 @@ use mathlib.Core.Path.{_≡_, refl, ap, _∙_}
 use mathlib.Core.Bool.{true}
 use mathlib.Core.List.{List, [], _∷_}
 use Rattle.zone.specs.Words.{kind, boundOf}
+use Rattle.zone.proofs.WordLaws.{good-fields}
 use Rattle.model.specs.Kinds.{Kind, none, head, location, action, edge, bound, start, number, is, kindOf}
 use Rattle.model.specs.Model.{Action, Location, Model, Parts, partsWith, partsOf, modelOf}
 use Rattle.model.specs.States.{locationAt}
@@ -60,7 +61,7 @@ bound-good : (s : Seen) (w : ℕ) → WithinLimits s → faultAt s w ≡ fault.N
 bound-good s w h f e =
     let named : kind w ≡ number bound = passes s w f .named ∙ ap number e in
     let b : is bound w ≡ true = rw named in
-    good-word (s .clocks) w (h .clocks) (good-bound s w h f b)
+    good-word (s .clocks) w (h .clocks) (good-fields (s .clocks) w (good-bound s w h f b))
 
 good-parts : (s : Seen) (p : ℕ) (ws : List ℕ) → WithinLimits s → Run s p ws → GoodParts (partsOf ws)
 unfolding partsOf

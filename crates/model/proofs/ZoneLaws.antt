@@ -8,11 +8,11 @@ use native.Mathlib.Omega.{arith}
 use lib.IntN.{natAbs}
 use lib.ListN.{getD, set, replicate}
 use Rattle.zone.specs.Scale.{Bound, Zone, holds?, in?, Region, within}
-use Rattle.zone.specs.Words.{boundOf, goodBound?}
+use Rattle.zone.specs.Words.{boundOf, boundFields?}
 use Rattle.zone.specs.Squares.{universe, Tightens}
 use Rattle.zone.specs.declared.zones.Zone.{Zone as Square}
 use Rattle.zone.proofs.Bools.{both, and}
-use Rattle.zone.proofs.WordLaws.{good-first, good-second, good-number}
+use Rattle.zone.proofs.WordLaws.{first-fits, second-fits, number-small}
 use Rattle.zone.proofs.Sizes.{tightens-universe, tightens-withBound}
 use Rattle.zone.proofs.Regions.{Stands, inBoth, stands-same, stands-universe, stands-withBound}
 use Rattle.model.specs.Indexed.{withBounds}
@@ -36,11 +36,11 @@ pub record GoodBound (b : Bound) : Type 0 where
 abbrev pub GoodZone : Zone → Type 0
 GoodZone z = All GoodBound z
 
-pub good-word : (C w : ℕ) → C ≤ 4 → goodBound? C w ≡ true → GoodBound (boundOf w)
-good-word C w h g = record {
-  first = omega (arith, good-first C w g);
-  second = omega (arith, good-second C w g);
-  small = good-number C w g;
+pub good-word : (C w : ℕ) → C ≤ 4 → boundFields? C w ≡ true → GoodBound (boundOf w)
+good-word C w h f = record {
+  first = omega (arith, first-fits C w f);
+  second = omega (arith, second-fits C w f);
+  small = number-small C w f;
 }
 
 -- ---- the table of a good zone

@@ -1,10 +1,11 @@
--- Document 01, "Words": the constant table of kinds, which says what may follow what. Assumes nothing.
+-- Document 01, "Words", and document 02, card 1: the constant table of kinds, which says what may follow what. Assumes nothing.
 use Prim.Native.Nat.{ℕ}
 use mathlib.Core.Bool.{Bool, false, _&&_, _||_}
 use mathlib.Core.List.{List, [], _∷_}
 use lib.Dec.{eqb}
 use Rattle.model.specs.Kinds.{Kind, none, head, location, action, edge, bound, start, number, kinds}
-use Rattle.model.specs.TableKinds.{TableKind, noKind, tableHead, node, nodeBound, value, blocked, successor, startNode, tableNumber, tableKinds}
+use Rattle.model.specs.TableKinds.{TableKind, noKind, tableHead, node, nodeBound, value, blocked, successor, startNode, cut}
+use Rattle.model.specs.TableKinds.{tableNumber, tableKinds}
 
 -- what may follow what. A bound opens nothing: after it come bounds and what its opener allows
 unfoldable pub follows : Kind → List Kind
@@ -20,16 +21,18 @@ follows start = bound ∷ []
 abbrev pub rowsOrMore : List TableKind
 rowsOrMore = node ∷ blocked ∷ successor ∷ startNode ∷ []
 
--- a table's words: 7, then one node or more, then C, then the end. A node is 8, its bounds, 9, and rows of A and B words
+-- a table's words: 7, then one node or more, then C, then the end. A node is 8, its bounds, 9, and rows of A and B words or, in their place, D
+-- and two B words
 unfoldable pub tableFollows : TableKind → List TableKind
 tableFollows noKind = tableHead ∷ []
 tableFollows tableHead = node ∷ []
 tableFollows node = nodeBound ∷ value ∷ []
 tableFollows nodeBound = []
-tableFollows value = rowsOrMore
+tableFollows value = cut ∷ rowsOrMore
 tableFollows blocked = rowsOrMore
 tableFollows successor = rowsOrMore
 tableFollows startNode = []
+tableFollows cut = successor ∷ []
 
 -- the number n is that of one of these kinds
 unfoldable pub numbered? : {K : Type 0} → (K → ℕ) → ℕ → List K → Bool

@@ -1,4 +1,4 @@
--- Document 01, "Words": the kinds of a table's words. Assumes nothing.
+-- Document 01, "Words", and document 02, card 1: the kinds of a table's words. Assumes nothing.
 use Prim.Native.Nat.{ℕ}
 use mathlib.Core.Bool.{Bool}
 use mathlib.Core.List.{List, [], _∷_}
@@ -8,7 +8,7 @@ use Rattle.model.specs.Kinds.{among}
 
 -- `noKind` stands before the first word, and for a kind that is not a table's
 pub data TableKind : Type 0 where
-  noKind tableHead node nodeBound value blocked successor startNode : TableKind
+  noKind tableHead node nodeBound value blocked successor startNode cut : TableKind
 
 -- the number of a kind. Document 01 has one constant table for both files, so what stands before a table has a number of its own; 16 is the
 -- kind of no word
@@ -21,9 +21,10 @@ tableNumber value = 9
 tableNumber blocked = 10
 tableNumber successor = 11
 tableNumber startNode = 12
+tableNumber cut = 13
 
 abbrev pub tableKinds : List TableKind
-tableKinds = noKind ∷ nodeBound ∷ tableHead ∷ node ∷ value ∷ blocked ∷ successor ∷ startNode ∷ []
+tableKinds = noKind ∷ nodeBound ∷ tableHead ∷ node ∷ value ∷ blocked ∷ successor ∷ startNode ∷ cut ∷ []
 
 -- a word of a kind
 abbrev pub isTable : TableKind → ℕ → Bool

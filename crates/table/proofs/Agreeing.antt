@@ -10,7 +10,7 @@ use lib.Dec.{eqb}
 use lib.ListN.{length}
 use Rattle.zone.specs.Words.{bits, kind}
 use Rattle.zone.proofs.Bools.{true-false, false-true, left-true, right-true}
-use Rattle.model.specs.TableKinds.{TableKind, noKind, tableHead, node, nodeBound, value, blocked, successor, startNode, tableNumber, tableKindOf}
+use Rattle.model.specs.TableKinds.{TableKind, noKind, tableHead, node, nodeBound, value, blocked, successor, startNode, cut, tableNumber, tableKindOf}
 use Rattle.model.specs.Before.{openerFrom, countOf}
 use Rattle.model.specs.Grammar.{tableFollows, numbered?, tableFollows?}
 use Rattle.model.specs.Model.{Model}
@@ -20,14 +20,14 @@ use Rattle.model.specs.declared.index.Index.{Index}
 use Rattle.model.specs.Index.{Kept as ModelKept}
 use Rattle.model.proofs.IndexLaws.{location-at}
 use Rattle.table.specs.Fields.{wholeOf, locationOf, fields?}
-use Rattle.table.specs.Reading.{lastLocation, allDue, dueAfterRow, dueWith, due}
+use Rattle.table.specs.Reading.{lastLocation, allDue, dueAfterRow, twoDue, dueWith, due}
 use Rattle.table.specs.Scan.{nothing, rowsAllowKind?, faultAt, seenWithKind, seenWith, rowOpeners, oneOf?}
 use Rattle.table.specs.declared.seen.Seen.{Seen}
 use Rattle.table.specs.declared.seen.Fault.the-variants as fault
 use Rattle.table.proofs.Passing.{Passes, passes, behind, behind-only, not-one, head-first, before-bound, before-value}
 use Rattle.table.proofs.ScanLaws.{in-row}
 use Rattle.table.proofs.ReadLaws.{target-stays}
-use Rattle.table.proofs.Rows.{LeftDue, none-left, left-row, left-successor, left-value}
+use Rattle.table.proofs.Rows.{LeftDue, none-left, left-row, left-successor, left-value, left-cut}
 
 -- ---- what the words before come to
 
@@ -124,6 +124,7 @@ module _ (M : Model) (m : ModelKept) (i : Indexed M m) (whole : ℕ) (before : L
   tallies-kind successor g =
       let b = added (tableNumber successor) before w (g .named) in let h = a .tallies in let r = in-row x s in omega arith
   tallies-kind startNode g = let b = added (tableNumber startNode) before w (g .named) in let h = a .tallies in omega arith
+  tallies-kind cut g = let b = added (tableNumber cut) before w (g .named) in let h = a .tallies in omega arith
 
   headed-kind : (k : TableKind) → Goes k → Heads whole before w → Begins whole before s (tableNumber k) → Headed whole (seenWithKind k x s w p)
   unfolding fields? seenWithKind
@@ -138,6 +139,7 @@ module _ (M : Model) (m : ModelKept) (i : Indexed M m) (whole : ℕ) (before : L
       let r = in-row x s in
       record { whole = r .whole ∙ head-before b (λ n. omega arith) .whole; opened = λ o. omega (arith, r .opener) }
   headed-kind startNode g first b = record { whole = head-before b (λ n. omega arith) .whole; opened = λ o. omega arith }
+  headed-kind cut g first b = record { whole = head-before b (λ n. omega arith) .whole; opened = λ o. omega arith }
 
   exists-kind : (k : TableKind) → Goes k → seenWithKind k x s w p .opener ≡ tableNumber node → seenWithKind k x s w p .location < length (M .locations)
   unfolding fields? seenWithKind
@@ -149,6 +151,7 @@ module _ (M : Model) (m : ModelKept) (i : Indexed M m) (whole : ℕ) (before : L
   exists-kind blocked g e = absurd (omega arith)
   exists-kind successor g e = absurd (omega (arith, in-row x s .opener))
   exists-kind startNode g e = absurd (omega arith)
+  exists-kind cut g e = absurd (omega arith)
 
   -- no row is due where the next node or the start node may stand, nor before the first value
   not-yet : (n : ℕ) → s .opener ≡ n → oneOf? rowOpeners n ≡ false → s .rows ≡ 0
@@ -176,6 +179,7 @@ module _ (M : Model) (m : ModelKept) (i : Indexed M m) (whole : ℕ) (before : L
   behind-kind blocked g = inr refl
   behind-kind successor g = inr (ap (oneOf? rowOpeners) (in-row x s .opener))
   behind-kind startNode g = inl (eqb-true (s .rows) 0 (g .rows))
+  behind-kind cut g = inr refl
 
   located : Goes value → LocationAt m (s .location) (locationAt M (s .location))
   located g = location-at i (s .location) (a .exists (before-value (s .opener) (g .follows)))
@@ -190,10 +194,11 @@ module _ (M : Model) (m : ModelKept) (i : Indexed M m) (whole : ℕ) (before : L
   rows-kind blocked g = left-row m (due M before) s (tableNumber blocked) (a .rows) (left-true _ _ (g .rows))
   rows-kind successor g = left-successor m (due M before) s (a .rows) (g .rows)
   rows-kind startNode g = none-left refl (eqb-true (s .rows) 0 (g .rows))
+  rows-kind cut g = left-cut m (due M before) s
 
   target-kind : (k : TableKind) → Goes k → oneOf? rowOpeners (seenWithKind k x s w p .opener) ≡ true →
       seenWithKind k x s w p .target ≡ dueWith k M (s .location) (due M before) .target
-  unfolding fields? seenWithKind dueWith allDue dueAfterRow tableFollows numbered?
+  unfolding fields? seenWithKind dueWith allDue dueAfterRow twoDue tableFollows numbered?
   target-kind noKind g o = false-true (g .fields)
   target-kind tableHead g o = false-true o
   target-kind node g o = false-true o
@@ -203,6 +208,7 @@ module _ (M : Model) (m : ModelKept) (i : Indexed M m) (whole : ℕ) (before : L
   target-kind successor g o =
       in-row x s .target ∙ a .target (behind successor (s .opener) (g .follows) rowOpeners tt) ∙ sym (target-stays (due M before))
   target-kind startNode g o = false-true o
+  target-kind cut g o = a .target (behind cut (s .opener) (g .follows) rowOpeners tt)
 
   pub agrees-with : faultAt s (x .clocks) (x .locations) w ≡ fault.None → Heads whole before w → Agrees M m whole (w ∷ before) (seenWith x s w p)
   unfolding seenWith due

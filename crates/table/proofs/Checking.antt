@@ -11,9 +11,9 @@ use lib.ListN.{getD, length}
 use Rattle.zone.specs.Words.{kind}
 use Rattle.zone.specs.Checks.{Answer, Check, test, First}
 use Rattle.zone.proofs.Bools.{left-true}
-use Rattle.model.specs.TableKinds.{noKind, tableHead, node, successor, startNode, isTable, tableKindOf, tableNumber}
+use Rattle.model.specs.TableKinds.{TableKind, noKind, tableHead, node, successor, startNode, cut, isTable, tableKindOf, tableNumber}
 use Rattle.model.specs.Before.{openerFrom, countOf}
-use Rattle.model.specs.Grammar.{tableFollows?}
+use Rattle.model.specs.Grammar.{tableFollows, numbered?, tableFollows?}
 use Rattle.model.specs.Model.{Model}
 use Rattle.model.specs.Indexed.{Indexed}
 use Rattle.model.proofs.Counts.{count-reversed}
@@ -21,16 +21,16 @@ use Rattle.model.specs.declared.index.Index.{Index}
 use Rattle.model.specs.Index.{Kept as ModelKept}
 use Rattle.table.specs.Fields.{wholeOf, numberOf, fields?}
 use Rattle.table.specs.Reading.{due, rowsAllow?, limit?, wordChecks, wordsChecks, numberChecks, readChecks, tableAnswer}
-use Rattle.table.specs.Scan.{nothing, rowsAllowAt?, fieldsAt?, limitAt?, faultAt, lastFault, seenWith}
+use Rattle.table.specs.Scan.{nothing, rowOpeners, rowsAllowKind?, rowsAllowAt?, fieldsAt?, limitAt?, faultAt, lastFault, seenWith}
 use Rattle.table.specs.Index.{Kept, keep, keptWith, Pass, passAt, unlessFault, scanFrom, scanned, numbersAnswer, answerOf}
 use Rattle.table.specs.declared.seen.Seen.{Seen}
 use Rattle.table.specs.declared.seen.Fault.{Fault}
 use Rattle.table.specs.declared.seen.Fault.the-variants as fault
 use Rattle.table.specs.declared.read.TableAnswer.{TableAnswer}
 use Rattle.table.specs.declared.read.TableAnswer.the-variants as answer
-use Rattle.table.proofs.KindLaws.{kind-is}
+use Rattle.table.proofs.KindLaws.{kind-is, by-kind}
 use Rattle.table.proofs.Run.{Run, seenEnd, goes, run-of, end-of}
-use Rattle.table.proofs.Passing.{firstFault}
+use Rattle.table.proofs.Passing.{firstFault, behind}
 use Rattle.table.proofs.Rows.{same-rows}
 use Rattle.table.proofs.Agreeing.{Agrees, Begins, here, there, Heads, agrees-nothing, begins, agrees-with}
 
@@ -60,13 +60,26 @@ module _ (M : Model) (m : ModelKept) (i : Indexed M m) (whole : ℕ) (before : L
   same-fields (here e o n) = rw (kind-is tableHead w n)
   same-fields (there h n) = rw (h .whole, i .clocks, i .locations)
 
+  -- where a cut may follow, both know whether the location is a target
+  same-kinds : Agrees M m whole before s → (tableFollows? (s .opener) (kind w) && rowsAllowAt? s w) ≡ kind? M whole before w
+  unfolding rowsAllowAt? tableFollows numbered?
+  same-kinds a = rw (← a .tallies .opener) (by (tableFollows? (s .opener) (kind w)) refl)
+    where
+      named : tableNumber (tableKindOf w) ≡ tableNumber cut → kind w ≡ tableNumber cut
+      named = by-kind (λ (k : TableKind). tableNumber k ≡ tableNumber cut → kind w ≡ tableNumber cut) w (λ e. absurd (omega arith)) (λ k n e. n ∙ e)
+
+      by : (c : Bool) → tableFollows? (s .opener) (kind w) ≡ c →
+          (c && rowsAllowKind? (tableKindOf w) s) ≡ (c && rowsAllow? (tableKindOf w) (due M before))
+      by true f = same-rows m (due M before) s (a .rows) (tableKindOf w) λ e. a .target (behind cut (s .opener) (rw (named e) at f) rowOpeners tt)
+      by false f = refl
+
   fault-is : Agrees M m whole before s →
       faultAt s (x .clocks) (x .locations) w ≡ firstFault (kind? M whole before w) (field? M whole before w) (under? M whole before w)
   unfolding faultAt rowsAllowAt? limitAt?
   fault-is a =
       same-fault (tableFollows? (s .opener) (kind w) && rowsAllowAt? s w) (fieldsAt? s (x .clocks) (x .locations) w) (limitAt? s w)
       (kind? M whole before w) (field? M whole before w) (under? M whole before w)
-      (rw (same-rows m (due M before) s (a .rows) (tableKindOf w), a .tallies .opener))
+      (same-kinds a)
       (rw (a .tallies .nodes))
       λ f. same-fields (begins M m whole before s a (kind w) (left-true _ _ f))
 

@@ -12,7 +12,8 @@ use lib.ListN.{length, getD}
 use Rattle.zone.specs.Words.{kind, zoneOf}
 use Rattle.zone.specs.Stores.{zoneAt}
 use Rattle.zone.proofs.StoreLaws.{universe-put}
-use Rattle.model.specs.TableKinds.{TableKind, noKind, tableHead, node, nodeBound, value, blocked, successor, startNode, tableNumber, isTable, tableKindOf}
+use Rattle.model.specs.TableKinds.{TableKind, noKind, tableHead, node, nodeBound, value, blocked, successor, startNode, cut}
+use Rattle.model.specs.TableKinds.{tableNumber, isTable, tableKindOf}
 use Rattle.model.specs.Before.{indexOf}
 use Rattle.model.specs.Model.{Model}
 use Rattle.model.specs.Indexed.{Each, withBounds}
@@ -28,7 +29,7 @@ use Rattle.table.specs.declared.seen.Fault.the-variants as fault
 use Rattle.table.specs.declared.read.TableAnswer.{TableAnswer}
 use Rattle.table.proofs.ScanLaws.{in-row}
 use Rattle.table.proofs.Run.{Run, seenEnd, keptEnd, run-of, end-of}
-use Rattle.table.proofs.Walk.{Step, a-head, a-node, a-bound, a-value, a-blocked, a-successor, a-start, Walk, walk-of}
+use Rattle.table.proofs.Walk.{Step, a-head, a-node, a-bound, a-value, a-blocked, a-successor, a-start, a-cut, Walk, walk-of}
 use Rattle.table.proofs.Slots.{Good, good-with, KeptAt, kept-end}
 
 -- ---- the nodes of the words to come
@@ -64,6 +65,7 @@ module _ (M : Model) (x : Index) (count : ℕ) (end : Kept) (s : Seen) (w p : �
   describes-with blocked i (a-blocked a) g h d = rw i d
   describes-with successor i (a-successor a) g h d = rw i (rw (in-row x s .nodes) at d)
   describes-with startNode i (a-start a) g h d = rw i d
+  describes-with cut i (a-cut a) g h d = rw i d
 
 describes :
     (M : Model) (x : Index) (s : Seen) (kept : Kept) (p : ℕ) (ws : List ℕ) → Walk x s p ws → Good s kept →
@@ -99,6 +101,7 @@ module _ (x : Index) where
       let r = in-row x s in
       record { begun = λ o. omega (arith, r .opener); first = λ o. absurd (a .not-first o); stays = λ n. r .whole }
   headed-with startNode s w p (a-start a) = record { begun = λ o. omega arith; first = λ o. absurd (a .not-first o); stays = λ n. refl }
+  headed-with cut s w p (a-cut a) = record { begun = λ o. omega arith; first = λ o. absurd (a .not-first o); stays = λ n. refl }
 
   whole-stays : (s : Seen) (p : ℕ) (ws : List ℕ) → Walk x s p ws → s .opener ≢ tableNumber noKind → seenEnd x s p ws .whole ≡ s .whole
   unfolding seenEnd seenWith
@@ -123,6 +126,7 @@ none-follows value s w (a-value e) o = omega arith
 none-follows blocked s w (a-blocked a) o = a .not-last o
 none-follows successor s w (a-successor a) o = a .not-last o
 none-follows startNode s w (a-start a) o = a .not-last o
+none-follows cut s w (a-cut a) o = a .not-last o
 
 last-stays : (x : Index) (s : Seen) (p : ℕ) (ws : List ℕ) → Walk x s p ws → s .opener ≡ tableNumber startNode → seenEnd x s p ws ≡ s
 unfolding seenEnd
@@ -153,6 +157,7 @@ module _ (x : Index) (s f : Seen) (w p : ℕ) (ws : List ℕ) where
   starts-with successor i (a-successor a) last h = later f w p ws (rw i) (h (λ o. omega (arith, in-row x s .opener)))
   starts-with startNode i (a-start a) last h =
       record { start = rw i (ap (λ (s : Seen). s .start) (last refl)); place = rw i (ap (λ (s : Seen). s .place) (last refl) ∙ sym (add-zero p)) }
+  starts-with cut i (a-cut a) last h = later f w p ws (rw i) (h (λ o. omega arith))
 
 starts : (x : Index) (s : Seen) (p : ℕ) (ws : List ℕ) → Walk x s p ws → s .opener ≢ tableNumber startNode → Starts (seenEnd x s p ws) p ws
 unfolding seenEnd seenWith

@@ -3,7 +3,7 @@ use Prim.Native.Nat.{ℕ}
 use mathlib.Core.Path.{_≡_, refl}
 use Rattle.zone.specs.Words.{kind}
 use Rattle.model.specs.Kinds.{among}
-use Rattle.model.specs.TableKinds.{TableKind, noKind, tableHead, node, nodeBound, value, blocked, successor, startNode}
+use Rattle.model.specs.TableKinds.{TableKind, noKind, tableHead, node, nodeBound, value, blocked, successor, startNode, cut}
 use Rattle.model.specs.TableKinds.{tableNumber, tableKinds, tableKindOf}
 use Rattle.model.proofs.KindLaws.{by-among}
 
@@ -18,6 +18,7 @@ kind-is value w e = rw e
 kind-is blocked w e = rw e
 kind-is successor w e = rw e
 kind-is startNode w e = rw e
+kind-is cut w e = rw e
 
 -- what holds of none, and of each kind whose number a word has, holds of the word's kind
 pub by-kind : (P : TableKind → Type 0) (w : ℕ) → P noKind → ((k : TableKind) → kind w ≡ tableNumber k → P k) → P (tableKindOf w)
@@ -31,8 +32,8 @@ IsNot k w = kind w ≡ tableNumber k → ⊥
 -- a word with none of these numbers is of no kind
 pub no-kind :
     (w : ℕ) → IsNot nodeBound w → IsNot tableHead w → IsNot node w → IsNot value w → IsNot blocked w → IsNot successor w →
-    IsNot startNode w → tableKindOf w ≡ noKind
-no-kind w b h n v a s c = by-kind (λ (k : TableKind). k ≡ noKind) w refl other
+    IsNot startNode w → IsNot cut w → tableKindOf w ≡ noKind
+no-kind w b h n v a s c d = by-kind (λ (k : TableKind). k ≡ noKind) w refl other
   where
     other : (k : TableKind) → kind w ≡ tableNumber k → k ≡ noKind
     other noKind q = refl
@@ -43,3 +44,4 @@ no-kind w b h n v a s c = by-kind (λ (k : TableKind). k ≡ noKind) w refl othe
     other blocked q = absurd (a q)
     other successor q = absurd (s q)
     other startNode q = absurd (c q)
+    other cut q = absurd (d q)

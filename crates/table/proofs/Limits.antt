@@ -9,7 +9,7 @@ use lib.Dec.{T, eqb}
 use lib.ListN.{getD}
 use Rattle.zone.specs.Words.{bits, kind, boundOf}
 use Rattle.zone.proofs.Bools.{by-test, false-true, left-true, right-true}
-use Rattle.model.specs.TableKinds.{TableKind, noKind, tableHead, node, nodeBound, value, blocked, successor, startNode}
+use Rattle.model.specs.TableKinds.{TableKind, noKind, tableHead, node, nodeBound, value, blocked, successor, startNode, cut}
 use Rattle.model.specs.TableKinds.{tableNumber, tableKinds, tableKindOf}
 use Rattle.model.specs.Grammar.{tableFollows, numbered?, tableFollows?}
 use Rattle.model.specs.Openers.{tableOpener?}
@@ -36,6 +36,7 @@ opens value n = refl
 opens blocked n = refl
 opens successor n = refl
 opens startNode n = refl
+opens cut n = refl
 
 -- ---- a word more
 
@@ -209,6 +210,18 @@ module _ (x : Index) (s : Seen) (fits : IndexFits x) (h : WithinLimits x s) wher
           rows = λ r. none-due done r;
         }
 
+    cut-limits : Passes cut x s w → WithinLimits x (seenWithKind cut x s w p)
+    unfolding seenWithKind tableFollows numbered?
+    cut-limits g = record {
+      opener = opens cut (λ e. omega arith);
+      nodes = h .nodes;
+      node = λ a. node-behind cut tt (g .follows);
+      begun = λ r. (refl, omega arith);
+      size = omega arith;
+      action = omega arith;
+      rows = λ r. absurd (omega arith);
+    }
+
     limits-kind : (k : TableKind) → Passes k x s w → WithinLimits x (seenWithKind k x s w p)
     unfolding seenWithKind fields?
     limits-kind noKind g = false-true (g .fields)
@@ -219,6 +232,7 @@ module _ (x : Index) (s : Seen) (fits : IndexFits x) (h : WithinLimits x s) wher
     limits-kind blocked g = blocked-limits g
     limits-kind successor g = successor-limits g
     limits-kind startNode g = start-limits g
+    limits-kind cut g = cut-limits g
 
 pub limits-nothing : (x : Index) → WithinLimits x nothing
 unfolding numbered?

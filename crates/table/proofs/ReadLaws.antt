@@ -11,7 +11,7 @@ use lib.ListN.{getD, length, drop}
 use lib.Seq.{drop-drop}
 use Rattle.zone.specs.Words.{kind}
 use Rattle.zone.proofs.Bools.{by-test}
-use Rattle.model.specs.TableKinds.{TableKind, noKind, tableHead, node, nodeBound, value, blocked, successor, startNode}
+use Rattle.model.specs.TableKinds.{TableKind, noKind, tableHead, node, nodeBound, value, blocked, successor, startNode, cut}
 use Rattle.model.specs.TableKinds.{tableNumber, isTable, tableKindOf}
 use Rattle.model.specs.Before.{openerFrom, countOf}
 use Rattle.model.specs.Model.{Action, Model}
@@ -20,7 +20,7 @@ use Rattle.model.proofs.ZoneLaws.{All, empty, more}
 use Rattle.model.proofs.WellFormed.{FormedAction, WellFormed}
 use Rattle.table.specs.Fields.{locationOf, fields?}
 use Rattle.table.specs.Table.{rowActions, nodeOf, nodesOf}
-use Rattle.table.specs.Reading.{lastLocation, Due, edgeCounts, allDue, dueAfterRow, dueAfterSuccessor, dueWith, due}
+use Rattle.table.specs.Reading.{lastLocation, Due, edgeCounts, allDue, dueAfterRow, dueAfterSuccessor, twoDue, dueWith, due}
 use Rattle.table.proofs.KindLaws.{kind-is, by-kind}
 
 -- ---- the rows that are due
@@ -68,7 +68,7 @@ lacking-all M l h =
     λ e. lacking-counts M (locationAt M l .actions) (h .actions l)
 
 pub lacking-with : (k : TableKind) (M : Model) (l : ℕ) (d : Due) → WellFormed M → LackingDue d → LackingDue (dueWith k M l d)
-unfolding dueWith dueAfterRow
+unfolding dueWith dueAfterRow twoDue
 lacking-with noKind M l d h g = tt
 lacking-with tableHead M l d h g = tt
 lacking-with node M l d h g = tt
@@ -77,6 +77,7 @@ lacking-with value M l d h g = lacking-all M l h
 lacking-with blocked M l d h g = lacking-row (d .begun) (d .rows) g
 lacking-with successor M l d h g = lacking-successor d g
 lacking-with startNode M l d h g = tt
+lacking-with cut M l d h g = (omega arith, tt)
 
 -- ---- a word more
 

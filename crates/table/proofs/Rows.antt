@@ -1,21 +1,21 @@
 -- The rows that are due behind some words, and the numbers by which the pass knows them. Assumes nothing.
 use Prim.Native.Nat.{ℕ, suc, _+_, _-_}
 use mathlib.Core.Path.{_≡_, refl, sym, ap, subst, _∙_}
-use mathlib.Core.Bool.{Bool, true, false, cond}
+use mathlib.Core.Bool.{Bool, true, false, not, cond}
 use mathlib.Core.List.{List, [], _∷_}
 use native.Mathlib.Numerals.{add-one}
 use native.Mathlib.Omega.{arith}
 use borrow.Author.Tests.{ne-eqb, ltb-true, lt-ltb}
 use lib.Dec.{eqb, ltb}
 use lib.ListN.{getD, length}
-use Rattle.model.specs.TableKinds.{TableKind, noKind, tableHead, node, nodeBound, value, blocked, successor, startNode, tableNumber}
+use Rattle.model.specs.TableKinds.{TableKind, noKind, tableHead, node, nodeBound, value, blocked, successor, startNode, cut, tableNumber}
 use Rattle.model.specs.Model.{Action, Location, Model}
 use Rattle.model.specs.States.{locationAt}
 use Rattle.model.specs.Indexed.{Each, ActionAt, LocationAt}
 use Rattle.model.specs.Index.{Kept as ModelKept}
 use Rattle.table.specs.Table.{rowActions}
-use Rattle.table.specs.Reading.{Due, edgeCounts, allDue, dueAfterRow, dueAfterSuccessor, rowsAllow?}
-use Rattle.table.specs.Scan.{rowsAllowKind?, withValue, withRow, withBegun, withSuccessor, firstRow, endRow, rowsAt, edgesAt, sizeAt}
+use Rattle.table.specs.Reading.{Due, edgeCounts, allDue, dueAfterRow, dueAfterSuccessor, twoDue, rowsAllow?}
+use Rattle.table.specs.Scan.{rowsAllowKind?, withValue, withRow, withBegun, withSuccessor, withCut, firstRow, endRow, rowsAt, edgesAt, sizeAt}
 use Rattle.table.specs.declared.seen.Seen.{Seen}
 
 -- the rows that are due, each by the number of its B words, and the pass's numbers for them: none, or a first one and behind it those of the
@@ -33,20 +33,23 @@ LeftDue m d s = Left m (d .rows) (d .begun) s
 some-rows : (n : ℕ) → (eqb (suc n) 0 ≡ false) × (ltb 0 (suc n) ≡ true)
 some-rows n = (ne-eqb (suc n) 0 (λ e. omega arith), lt-ltb 0 (suc n) (omega arith))
 
-pub same-rows : (m : ModelKept) (d : Due) (s : Seen) → LeftDue m d s → (k : TableKind) → rowsAllowKind? k s ≡ rowsAllow? k d
+-- a cut asks whether the location is a target, the other kinds ask for rows
+pub same-rows : (m : ModelKept) (d : Due) (s : Seen) → LeftDue m d s → (k : TableKind) → (tableNumber k ≡ tableNumber cut → s .target ≡ d .target) →
+    rowsAllowKind? k s ≡ rowsAllow? k d
 unfolding rowsAllowKind? rowsAllow?
-same-rows m d s h noKind = refl
-same-rows m d s h tableHead = refl
-same-rows m d s (none-left e f) node = rw (e, f)
-same-rows m d s (row-left As a e f b) node = rw (e, f, some-rows (length As) .0)
-same-rows m d s h nodeBound = refl
-same-rows m d s h value = refl
-same-rows m d s (none-left e f) blocked = rw (e, f)
-same-rows m d s (row-left As a e f b) blocked = rw (e, f, b, some-rows (length As) .1)
-same-rows m d s (none-left e f) successor = rw (e, f)
-same-rows m d s (row-left As a e f b) successor = rw (e, f, some-rows (length As) .1)
-same-rows m d s (none-left e f) startNode = rw (e, f)
-same-rows m d s (row-left As a e f b) startNode = rw (e, f, some-rows (length As) .0)
+same-rows m d s h noKind t = refl
+same-rows m d s h tableHead t = refl
+same-rows m d s (none-left e f) node t = rw (e, f)
+same-rows m d s (row-left As a e f b) node t = rw (e, f, some-rows (length As) .0)
+same-rows m d s h nodeBound t = refl
+same-rows m d s h value t = refl
+same-rows m d s (none-left e f) blocked t = rw (e, f)
+same-rows m d s (row-left As a e f b) blocked t = rw (e, f, b, some-rows (length As) .1)
+same-rows m d s (none-left e f) successor t = rw (e, f)
+same-rows m d s (row-left As a e f b) successor t = rw (e, f, some-rows (length As) .1)
+same-rows m d s (none-left e f) startNode t = rw (e, f)
+same-rows m d s (row-left As a e f b) startNode t = rw (e, f, some-rows (length As) .0)
+same-rows m d s h cut t = ap not (t refl)
 
 -- ---- a word more
 
@@ -83,6 +86,11 @@ module _ (m : ModelKept) (d : Due) (s : Seen) where
           (cond c (withRow (m .index) s (tableNumber successor)) (withBegun s))
       by true = left-row (tableNumber successor) (row-left As a e f b) t
       by false = row-left As a e f (add-one (s .begun) ∙ ap suc b)
+
+-- behind a cut, two B words
+pub left-cut : (m : ModelKept) (d : Due) (s : Seen) → LeftDue m (twoDue d) (withCut s)
+unfolding twoDue edgeCounts Each
+left-cut m d s = row-left [] tt refl refl refl
 
 -- the actions of a location that have a row
 rows-each : (m : ModelKept) (n : ℕ) (c : Bool) (As : List Action) → Each (ActionAt m) n As → Each (ActionAt m) n (cond c [] As)

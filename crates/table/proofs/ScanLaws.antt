@@ -15,7 +15,8 @@ use Rattle.zone.specs.Squares.{universe}
 use Rattle.zone.specs.Stores.{putAt, withWordAt, HasSlot}
 use Rattle.zone.proofs.Bools.{by-test, false-true}
 use Rattle.zone.proofs.StoreLaws.{put-length, word-length}
-use Rattle.model.specs.TableKinds.{TableKind, noKind, tableHead, node, nodeBound, value, blocked, successor, startNode, tableNumber, isTable, tableKindOf}
+use Rattle.model.specs.TableKinds.{TableKind, noKind, tableHead, node, nodeBound, value, blocked, successor, startNode, cut}
+use Rattle.model.specs.TableKinds.{tableNumber, isTable, tableKindOf}
 use Rattle.model.specs.declared.index.Index.{Index}
 use Rattle.table.specs.Fields.{numberOf}
 use Rattle.table.specs.Nodes.{nodeCount, entryOf, putEntry, HasNode}
@@ -40,10 +41,10 @@ module _ (s : Seen) (w p : ℕ) where
 
     -- nothing, where it is of no kind or a bound
     pub seen-stays :
-        IsNot tableHead w → IsNot node w → IsNot value w → IsNot blocked w → IsNot successor w → IsNot startNode w →
+        IsNot tableHead w → IsNot node w → IsNot value w → IsNot blocked w → IsNot successor w → IsNot startNode w → IsNot cut w →
         s ≡ seenWith x s w p
     unfolding seenWith seenWithKind
-    seen-stays h n v a b c = by-kind (λ (k : TableKind). s ≡ seenWithKind k x s w p) w refl at
+    seen-stays h n v a b c d = by-kind (λ (k : TableKind). s ≡ seenWithKind k x s w p) w refl at
       where
         at : (k : TableKind) → kind w ≡ tableNumber k → s ≡ seenWithKind k x s w p
         at noKind q = refl
@@ -54,6 +55,7 @@ module _ (s : Seen) (w p : ℕ) where
         at blocked q = absurd (a q)
         at successor q = absurd (b q)
         at startNode q = absurd (c q)
+        at cut q = absurd (d q)
 
 -- with a successor: it is the last word that is no bound, and what tells nothing of rows stays
 pub record InRow (new old : Seen) : Type 0 where
@@ -84,6 +86,7 @@ as-long value s w p kept = record { nodes = entry-length (entryOf (s .location) 
 as-long blocked s w p kept = record { nodes = refl; zones = refl }
 as-long successor s w p kept = record { nodes = refl; zones = refl }
 as-long startNode s w p kept = record { nodes = refl; zones = refl }
+as-long cut s w p kept = record { nodes = refl; zones = refl }
 
 -- a store as long as one that fits has a place for each node
 pub has-slot : {n l : ℕ} {zs : List ℤ} → n < nodeCount → length zs ≡ l → nodeCount * 25 ≤ l → HasSlot n zs
@@ -111,6 +114,7 @@ module _ (s : Seen) (w p : ℕ) (ns : List ℕ) (zs : List ℤ) where
       at blocked q = refl
       at successor q = refl
       at startNode q = refl
+      at cut q = refl
 
   module _ {ms : List ℕ} {ys : List ℤ} where
     pub kept-bound : kind w ≡ tableNumber nodeBound → ms ≡ ns → ys ≡ withWordAt w (s .nodes - 1) zs → keep ms ys ≡ keptWith s w p (keep ns zs)

@@ -1,30 +1,30 @@
--- What holds of the table of words that pass the checks 11 to 14: a row for each action, a successor for each edge, numbers of nodes that are
--- there, values of at most V, good zones. Assumes nothing.
+-- What holds of the table of words that pass the checks 11 to 14: a row for each action, a successor for each edge, or a cut in place of the rows,
+-- numbers of nodes that are there, values of at most V, good zones. Assumes nothing.
 use Prim.Native.Nat.{ℕ, zero, suc, _+_, _-_, _≤_, _<_, _^_}
 use mathlib.Core.Path.{_≡_, refl, sym, ap, subst, _∙_}
 use mathlib.Core.Logic.{_⊎_, inl, inr, _≢_}
 use mathlib.Core.Bool.{Bool, true, false, not, _&&_, _||_}
 use mathlib.Core.List.{List, [], _∷_}
 use native.Mathlib.Omega.{arith}
-use borrow.Author.Tests.{eqb-true}
+use borrow.Author.Tests.{eqb-true, not-true}
 use lib.Dec.{T, eqb, ltb, leb→le, ltb→lt, eqb→eq}
 use lib.ListN.{getD, length, drop, length-drop}
 use lib.Seq.{drop-drop}
-use Rattle.zone.specs.Words.{bits, kind, boundOf, goodBound?, zoneOf}
+use Rattle.zone.specs.Words.{bits, kind, boundOf, boundFields?, zoneOf}
 use Rattle.zone.specs.Checks.{Check}
-use Rattle.zone.proofs.Bools.{by-test, both, and, is-true}
+use Rattle.zone.proofs.Bools.{by-test, false-true, both, is-true}
 use Rattle.zone.proofs.CheckLaws.{AllHold, all-left, all-right}
-use Rattle.model.specs.TableKinds.{TableKind, noKind, tableHead, node, nodeBound, value, blocked, successor, startNode, tableNumber}
+use Rattle.model.specs.TableKinds.{TableKind, noKind, tableHead, node, nodeBound, value, blocked, successor, startNode, cut}
 use Rattle.model.specs.TableKinds.{tableNumber, isTable, tableKindOf}
 use Rattle.model.specs.Before.{openerFrom, countOf, indexOf}
 use Rattle.model.specs.Grammar.{tableFollows, numbered?, tableFollows?}
-use Rattle.model.specs.Model.{Action, Model}
+use Rattle.model.specs.Model.{Action, Location, Model}
 use Rattle.model.specs.States.{locationAt}
 use Rattle.model.proofs.ZoneLaws.{All, empty, more, GoodBound, GoodZone, good-word}
 use Rattle.model.proofs.WellFormed.{WellFormed}
 use Rattle.table.specs.Fields.{wholeOf, locationOf, valueOf, numberOf, fields?}
-use Rattle.table.specs.Table.{Node, Table, rowsOf, leadingBounds, rowActions, nodeOf, nodesOf, tableOf}
-use Rattle.table.specs.Reading.{lastLocation, Due, edgeCounts, allDue, dueAfterRow, dueAfterSuccessor, dueWith, due}
+use Rattle.table.specs.Table.{Node, Table, leadingBounds, rowActions, bodyOf, nodeOf, nodesOf, tableOf}
+use Rattle.table.specs.Reading.{lastLocation, Due, edgeCounts, allDue, dueAfterRow, dueAfterSuccessor, twoDue, dueWith, due}
 use Rattle.table.specs.Reading.{none?, rowsAllow?, wordChecks, wordsChecks, numberChecks, readChecks}
 use Rattle.table.specs.Scan.{rowSize, rowOpeners, oneOf?}
 use Rattle.table.proofs.Passing.{behind, behind-only, not-one, before-bound, before-value}
@@ -43,13 +43,29 @@ RowsStand nodes (A ∷ As) ws =
     RowStands nodes (isTable blocked (getD ws 0 0)) (length (A .edges)) ws ×
     RowsStand nodes As (drop (rowSize (isTable blocked (getD ws 0 0)) (length (A .edges))) ws)
 
+-- the words from here on are a cut at a location that is no target: a good bound, and two words that name one of so many nodes
+pub record CutStands (nodes : ℕ) (L : Location) (ws : List ℕ) : Type 0 where
+  pub elsewhere : L .target ≡ false
+  pub bound : GoodBound (boundOf (getD ws 0 0))
+  pub there : 3 ≤ length ws
+  pub holding : numberOf (getD ws 1 0) < nodes
+  pub rest : numberOf (getD ws 2 0) < nodes
+
+-- the words from here on are a cut, or rows for the actions of a location
+unfoldable pub BodyStands : ℕ → Bool → Location → List ℕ → Type 0
+BodyStands nodes true L ws = CutStands nodes L ws
+BodyStands nodes false L ws = RowsStand nodes (rowActions L) ws
+
+-- a word stands behind the value
 pub record NodeShaped (M : Model) (W : Table) (words : List ℕ) (N : Node) : Type 0 where
   pub exists : N .location < length (M .locations)
   pub value : N .value ≤ W .whole
-  pub place : N .place < length words
+  pub place : suc (N .place) < length words
   pub zone : GoodZone (N .zone)
-  pub rows : N .rows ≡ rowsOf (rowActions (locationAt M (N .location))) (suc (N .place)) (drop (suc (N .place)) words)
-  pub stands : RowsStand (length (W .nodes)) (rowActions (locationAt M (N .location))) (drop (suc (N .place)) words)
+  pub body : N .body ≡ bodyOf (locationAt M (N .location)) (suc (N .place)) (drop (suc (N .place)) words)
+  pub stands :
+      let ws : List ℕ = drop (suc (N .place)) words in
+      BodyStands (length (W .nodes)) (isTable cut (getD ws 0 0)) (locationAt M (N .location)) ws
 
 pub record Shaped (M : Model) (words : List ℕ) (W : Table) : Type 0 where
   pub whole : 1 ≤ W .whole
@@ -130,26 +146,29 @@ module _ (M : Model) (W : Table) (words : List ℕ) where
     fields : T (fields? k (M .clocks) (length (M .locations)) (W .whole) w)
     number : T (not (isTable successor w || isTable startNode w) || ltb (numberOf w) (length (W .nodes)))
 
-  -- the words behind a node word: good bounds, a value, and the rows
+  -- the words behind a value: the cut or the rows of a node of the location l
+  abbrev Behind : ℕ → List ℕ → Type 0
+  Behind l ws = BodyStands (length (W .nodes)) (isTable cut (getD ws 0 0)) (locationAt M l) ws
+
+  -- the words behind a node word: good bounds, a value, and behind it some word
   record NodeStands (l : ℕ) (ws : List ℕ) : Type 0 where
     bounds : GoodZone (zoneOf (leadingBounds ws))
-    there : length (leadingBounds ws) < length ws
+    there : suc (length (leadingBounds ws)) < length ws
     value : valueOf (getD (drop (length (leadingBounds ws)) ws) 0 0) ≤ W .whole
-    rows : RowsStand (length (W .nodes)) (rowActions (locationAt M l)) (drop 1 (drop (length (leadingBounds ws)) ws))
+    body : Behind l (drop 1 (drop (length (leadingBounds ws)) ws))
 
   with-bound : (l w : ℕ) (ws : List ℕ) → kind w ≡ tableNumber nodeBound → GoodBound (boundOf w) → NodeStands l ws → NodeStands l (w ∷ ws)
   unfolding leadingBounds zoneOf
   with-bound l w ws e g r =
-      let there : suc (length (leadingBounds ws)) < suc (length ws) = omega (arith, r .there) in
-      record { bounds = rw e (more g (r .bounds)); there = rw e there; value = rw e (r .value); rows = rw e (r .rows) }
+      let there : suc (suc (length (leadingBounds ws))) < suc (length ws) = omega (arith, r .there) in
+      record { bounds = rw e (more g (r .bounds)); there = rw e there; value = rw e (r .value); body = rw e (r .body) }
 
   with-value :
-      (l w : ℕ) (ws : List ℕ) → kind w ≡ tableNumber value → valueOf w ≤ W .whole → RowsStand (length (W .nodes)) (rowActions (locationAt M l)) ws →
-      NodeStands l (w ∷ ws)
+      (l w : ℕ) (ws : List ℕ) → kind w ≡ tableNumber value → valueOf w ≤ W .whole → 1 ≤ length ws → Behind l ws → NodeStands l (w ∷ ws)
   unfolding leadingBounds zoneOf
-  with-value l w ws e h r =
-      let there : 0 < suc (length ws) = omega arith in
-      record { bounds = rw e empty; there = rw e there; value = rw e h; rows = rw e r }
+  with-value l w ws e h m r =
+      let there : 1 < suc (length ws) = omega arith in
+      record { bounds = rw e empty; there = rw e there; value = rw e h; body = rw e r }
 
   node-shaped :
       (p w : ℕ) (ws : List ℕ) → drop (suc p) words ≡ ws → locationOf w < length (M .locations) → NodeStands (locationOf w) ws →
@@ -160,8 +179,8 @@ module _ (M : Model) (W : Table) (words : List ℕ) where
     value = r .value;
     place = omega (arith, r .there, ap length e, length-drop (suc p) words);
     zone = r .bounds;
-    rows = ap (rowsOf (rowActions (locationAt M (locationOf w))) (suc (suc p + n))) rest;
-    stands = subst (RowsStand (length (W .nodes)) (rowActions (locationAt M (locationOf w)))) rest (r .rows);
+    body = ap (bodyOf (locationAt M (locationOf w)) (suc (suc p + n))) rest;
+    stands = subst (Behind (locationOf w)) rest (r .body);
   }
     where
       n : ℕ
@@ -178,15 +197,23 @@ module _ (M : Model) (W : Table) (words : List ℕ) where
   record Stands (o l : ℕ) (d : Due) (p : ℕ) (ws : List ℕ) : Type 0 where
     head : o ≡ tableNumber noKind → 1 ≤ wholeOf (getD ws 0 0)
     behind : o ≡ tableNumber node → NodeStands l ws
-    rows : oneOf? rowOpeners o ≡ true → DueStand (length (W .nodes)) (d .begun) (d .rows) ws
+    rows : oneOf? rowOpeners o ≡ true → isTable cut (getD ws 0 0) ≡ false → DueStand (length (W .nodes)) (d .begun) (d .rows) ws
+    -- a cut stands behind a value alone, and behind it no blocked row
+    uncut : o ≢ tableNumber value → isTable cut (getD ws 0 0) ≡ false
+    cuts : o ≡ tableNumber value → isTable cut (getD ws 0 0) ≡ true → (L : Location) → d .target ≡ L .target → CutStands (length (W .nodes)) L ws
+    onward : o ≡ tableNumber cut → isTable blocked (getD ws 0 0) ≡ false
+    more : o ≢ tableNumber startNode → 1 ≤ length ws
     nodes : All (NodeShaped M W words) (nodesOf M p ws)
     start : o ≢ tableNumber startNode → numberOf (getD ws (indexOf (tableNumber startNode) ws) 0) < length (W .nodes)
 
   module _ (formed : WellFormed M) (o l : ℕ) (d : Due) (w p : ℕ) (ws : List ℕ) where
     good-bound : Passes nodeBound o d w → GoodBound (boundOf w)
-    unfolding goodBound? fields?
-    good-bound g =
-        good-word (M .clocks) w (formed .clocks) (is-true (goodBound? (M .clocks) w) (and (eqb (kind w) 5) _ (rw (g .named) tt) (g .fields)))
+    unfolding fields?
+    good-bound g = good-word (M .clocks) w (formed .clocks) (is-true (boundFields? (M .clocks) w) (g .fields))
+
+    good-cut : Passes cut o d w → GoodBound (boundOf w)
+    unfolding fields?
+    good-cut g = good-word (M .clocks) w (formed .clocks) (is-true (boundFields? (M .clocks) w) (both (boundFields? (M .clocks) w) _ (g .fields) .0))
 
     location-exists : Passes node o d w → locationOf w < length (M .locations)
     unfolding fields?
@@ -196,6 +223,30 @@ module _ (M : Model) (W : Table) (words : List ℕ) where
     number-there k (inl i) g = ltb→lt (numberOf w) (length (W .nodes)) (rw (g .named, i) at (g .number))
     number-there k (inr i) g = ltb→lt (numberOf w) (length (W .nodes)) (rw (g .named, i) at (g .number))
 
+    -- behind a value: the cut or the rows
+    behind-value : (ws : List ℕ) → (isTable cut (getD ws 0 0) ≡ false → DueStand (length (W .nodes)) 0 (edgeCounts (rowActions (locationAt M l))) ws) →
+        (isTable cut (getD ws 0 0) ≡ true → (L : Location) → locationAt M l .target ≡ L .target → CutStands (length (W .nodes)) L ws) → Behind l ws
+    unfolding BodyStands
+    behind-value ws rows cuts = by (isTable cut (getD ws 0 0)) rows cuts
+      where
+        by : (c : Bool) → (c ≡ false → DueStand (length (W .nodes)) 0 (edgeCounts (rowActions (locationAt M l))) ws) →
+            (c ≡ true → (L : Location) → locationAt M l .target ≡ L .target → CutStands (length (W .nodes)) L ws) →
+            BodyStands (length (W .nodes)) c (locationAt M l) ws
+        by true rows cuts = cuts refl (locationAt M l) refl
+        by false rows cuts = rows-due (length (W .nodes)) (rowActions (locationAt M l)) ws (rows refl)
+
+    -- a cut with its two B words
+    cut-stands : (L : Location) → T (not (L .target)) → GoodBound (boundOf w) → RowStands (length (W .nodes)) false 2 ws →
+        CutStands (length (W .nodes)) L (w ∷ ws)
+    unfolding RowStands
+    cut-stands L t g h = record {
+      elsewhere = not-true (L .target) (is-true _ t);
+      bound = g;
+      there = omega (arith, h .1);
+      holding = h .2 0 (omega arith);
+      rest = h .2 1 (omega arith);
+    }
+
     none-due : (ns : List ℕ) → T (none? ns) → DueStand (length (W .nodes)) (d .begun) ns (w ∷ ws)
     none-due [] t = tt
     none-due (n ∷ ns) t = absurd t
@@ -203,14 +254,18 @@ module _ (M : Model) (W : Table) (words : List ℕ) where
     stands-with :
         (k : TableKind) → Passes k o d w → LackingDue d → drop (suc p) words ≡ ws →
         Stands (openerWith k o) (locationWith k w l) (dueWith k M l d) (suc p) ws → Stands o l d p (w ∷ ws)
-    unfolding tableFollows numbered? fields? rowsAllow? dueWith allDue dueAfterRow nodesOf indexOf
+    unfolding tableFollows numbered? fields? rowsAllow? dueWith allDue dueAfterRow twoDue nodesOf indexOf BodyStands
     stands-with noKind g n e r = absurd (g .fields)
     stands-with tableHead g n e r =
         let first = behind-only tableHead o (g .follows) noKind tt in
         record {
           head = λ i. leb→le 1 (wholeOf w) (g .fields);
           behind = λ i. absurd (omega arith);
-          rows = λ i. absurd (not-one rowOpeners o (tableNumber noKind) i refl first);
+          rows = λ i u. absurd (not-one rowOpeners o (tableNumber noKind) i refl first);
+          uncut = λ i. rw (g .named);
+          cuts = λ i t. false-true (rw (g .named) at t);
+          onward = λ i. rw (g .named);
+          more = λ i. omega arith;
           nodes = rw (g .named) (r .nodes);
           start = λ i. rw (g .named) (r .start (λ j. omega arith));
         }
@@ -219,7 +274,11 @@ module _ (M : Model) (W : Table) (words : List ℕ) where
         record {
           head = λ i. absurd (not-one (tableHead ∷ rowOpeners) o (tableNumber noKind) within refl i);
           behind = λ i. absurd (not-one (tableHead ∷ rowOpeners) o (tableNumber node) within refl i);
-          rows = λ i. none-due (d .rows) (g .rows);
+          rows = λ i u. none-due (d .rows) (g .rows);
+          uncut = λ i. rw (g .named);
+          cuts = λ i t. false-true (rw (g .named) at t);
+          onward = λ i. rw (g .named);
+          more = λ i. omega arith;
           nodes = rw (g .named) (more (node-shaped p w ws e (location-exists g) (r .behind refl)) (r .nodes));
           start = λ i. rw (g .named) (r .start (λ j. omega arith));
         }
@@ -228,7 +287,11 @@ module _ (M : Model) (W : Table) (words : List ℕ) where
         record {
           head = λ i. absurd (omega arith);
           behind = λ i. with-bound l w ws (g .named) (good-bound g) (r .behind i);
-          rows = λ i. absurd (not-one rowOpeners o (tableNumber node) i refl last);
+          rows = λ i u. absurd (not-one rowOpeners o (tableNumber node) i refl last);
+          uncut = λ i. rw (g .named);
+          cuts = λ i t. false-true (rw (g .named) at t);
+          onward = λ i. rw (g .named);
+          more = λ i. omega arith;
           nodes = rw (g .named) (r .nodes);
           start = λ i. rw (g .named) (r .start i);
         }
@@ -237,18 +300,25 @@ module _ (M : Model) (W : Table) (words : List ℕ) where
         record {
           head = λ i. absurd (omega arith);
           behind = λ i.
-              with-value l w ws (g .named) (leb→le (valueOf w) (W .whole) (g .fields))
-              (rows-due (length (W .nodes)) (rowActions (locationAt M l)) ws (r .rows refl));
-          rows = λ i. absurd (not-one rowOpeners o (tableNumber node) i refl last);
+              with-value l w ws (g .named) (leb→le (valueOf w) (W .whole) (g .fields)) (r .more (λ j. omega arith)) (behind-value ws (r .rows refl) (r .cuts refl));
+          rows = λ i u. absurd (not-one rowOpeners o (tableNumber node) i refl last);
+          uncut = λ i. rw (g .named);
+          cuts = λ i t. false-true (rw (g .named) at t);
+          onward = λ i. rw (g .named);
+          more = λ i. omega arith;
           nodes = rw (g .named) (r .nodes);
           start = λ i. rw (g .named) (r .start (λ j. omega arith));
         }
     stands-with blocked g n e r =
-        let within = behind blocked o (g .follows) rowOpeners tt in
+        let within = behind blocked o (g .follows) (value ∷ blocked ∷ successor ∷ []) tt in
         record {
-          head = λ i. absurd (not-one rowOpeners o (tableNumber noKind) within refl i);
-          behind = λ i. absurd (not-one rowOpeners o (tableNumber node) within refl i);
-          rows = λ i. due-blocked (length (W .nodes)) w ws (d .begun) (d .rows) (g .named) (g .rows) (r .rows refl);
+          head = λ i. absurd (not-one (value ∷ blocked ∷ successor ∷ []) o (tableNumber noKind) within refl i);
+          behind = λ i. absurd (not-one (value ∷ blocked ∷ successor ∷ []) o (tableNumber node) within refl i);
+          rows = λ i u. due-blocked (length (W .nodes)) w ws (d .begun) (d .rows) (g .named) (g .rows) (r .rows refl (r .uncut (λ j. omega arith)));
+          uncut = λ i. rw (g .named);
+          cuts = λ i t. false-true (rw (g .named) at t);
+          onward = λ i. absurd (not-one (value ∷ blocked ∷ successor ∷ []) o (tableNumber cut) within refl i);
+          more = λ i. omega arith;
           nodes = rw (g .named) (r .nodes);
           start = λ i. rw (g .named) (r .start (λ j. omega arith));
         }
@@ -257,9 +327,13 @@ module _ (M : Model) (W : Table) (words : List ℕ) where
         record {
           head = λ i. absurd (not-one rowOpeners o (tableNumber noKind) within refl i);
           behind = λ i. absurd (not-one rowOpeners o (tableNumber node) within refl i);
-          rows = λ i.
+          rows = λ i u.
               due-successor (length (W .nodes)) w ws (d .begun) (d .rows) (g .named) (number-there successor (inl refl) g) n
-              (left (length (W .nodes)) w ws d (r .rows refl));
+              (left (length (W .nodes)) w ws d (r .rows refl (r .uncut (λ j. omega arith))));
+          uncut = λ i. rw (g .named);
+          cuts = λ i t. false-true (rw (g .named) at t);
+          onward = λ i. rw (g .named);
+          more = λ i. omega arith;
           nodes = rw (g .named) (r .nodes);
           start = λ i. rw (g .named) (r .start (λ j. omega arith));
         }
@@ -268,9 +342,28 @@ module _ (M : Model) (W : Table) (words : List ℕ) where
         record {
           head = λ i. absurd (not-one rowOpeners o (tableNumber noKind) within refl i);
           behind = λ i. absurd (not-one rowOpeners o (tableNumber node) within refl i);
-          rows = λ i. none-due (d .rows) (g .rows);
+          rows = λ i u. none-due (d .rows) (g .rows);
+          uncut = λ i. rw (g .named);
+          cuts = λ i t. false-true (rw (g .named) at t);
+          onward = λ i. rw (g .named);
+          more = λ i. omega arith;
           nodes = rw (g .named) (r .nodes);
           start = λ i. rw (g .named) (number-there startNode (inr refl) g);
+        }
+    stands-with cut g n e r =
+        let last = behind-only cut o (g .follows) value tt in
+        let two = r .rows refl (r .uncut (λ j. omega arith)) .0 in
+        record {
+          head = λ i. absurd (omega arith);
+          behind = λ i. absurd (omega arith);
+          rows = λ i u. false-true (sym u ∙ rw (g .named));
+          uncut = λ i. absurd (i last);
+          cuts = λ i t L same.
+              cut-stands L (rw same at (g .rows)) (good-cut g) (rw (r .onward refl) at two);
+          onward = λ i. absurd (omega arith);
+          more = λ i. omega arith;
+          nodes = rw (g .named) (r .nodes);
+          start = λ i. rw (g .named) (r .start (λ j. omega arith));
         }
 
   -- ---- what the checks say
@@ -286,7 +379,11 @@ module _ (M : Model) (W : Table) (words : List ℕ) where
       record {
         head = λ i. absurd (omega arith);
         behind = λ i. absurd (omega arith);
-        rows = λ i. absurd (not-one rowOpeners o (tableNumber startNode) i refl last);
+        rows = λ i u. absurd (not-one rowOpeners o (tableNumber startNode) i refl last);
+        uncut = λ i. refl;
+        cuts = λ i t. absurd (omega arith);
+        onward = λ i. refl;
+        more = λ i. absurd (i last);
         nodes = empty;
         start = λ i. absurd (i last);
       }

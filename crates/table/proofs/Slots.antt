@@ -11,7 +11,7 @@ use Rattle.zone.specs.Reading.{withWord}
 use Rattle.zone.specs.Stores.{zoneAt}
 use Rattle.zone.specs.declared.zones.Zone.{Zone as Square}
 use Rattle.zone.proofs.StoreLaws.{put-apart, word-here, word-apart}
-use Rattle.model.specs.TableKinds.{TableKind, tableHead, node, nodeBound, value, blocked, successor, startNode, tableNumber, tableKindOf}
+use Rattle.model.specs.TableKinds.{TableKind, tableHead, node, nodeBound, value, blocked, successor, startNode, cut, tableNumber, tableKindOf}
 use Rattle.model.specs.Indexed.{withBounds}
 use Rattle.model.specs.declared.index.Index.{Index}
 use Rattle.table.specs.Fields.{valueOf}
@@ -24,7 +24,7 @@ use Rattle.table.specs.declared.nodes.NodeEntry.{NodeEntry}
 use Rattle.table.proofs.NodeLaws.{entry-here, entry-apart}
 use Rattle.table.proofs.ScanLaws.{in-row, as-long}
 use Rattle.table.proofs.Run.{keptEnd}
-use Rattle.table.proofs.Walk.{Step, a-head, a-node, a-bound, a-value, a-blocked, a-successor, a-start, Walk}
+use Rattle.table.proofs.Walk.{Step, a-head, a-node, a-bound, a-value, a-blocked, a-successor, a-start, a-cut, Walk}
 
 -- what holds while no check has failed: the stores have room, behind a node word there is a node, and a location is a number of four bits
 pub record Good (s : Seen) (k : Kept) : Type 0 where
@@ -49,6 +49,7 @@ module _ (x : Index) (s : Seen) (w p : ℕ) (kept : Kept) where
       limit blocked (a-blocked a) = g .limit
       limit successor (a-successor a) = rw (in-row x s .nodes) (g .limit)
       limit startNode (a-start a) = g .limit
+      limit cut (a-cut a) = g .limit
 
       begun : (k : TableKind) → Step s w k → seenWithKind k x s w p .opener ≡ tableNumber node → 1 ≤ seenWithKind k x s w p .nodes
       begun tableHead (a-head e) o = absurd (omega arith)
@@ -58,6 +59,7 @@ module _ (x : Index) (s : Seen) (w p : ℕ) (kept : Kept) where
       begun blocked (a-blocked a) o = absurd (omega arith)
       begun successor (a-successor a) o = absurd (omega (arith, in-row x s .opener))
       begun startNode (a-start a) o = absurd (omega arith)
+      begun cut (a-cut a) o = absurd (omega arith)
 
       location : (k : TableKind) → Step s w k → seenWithKind k x s w p .location < 16
       location tableHead (a-head e) = g .location
@@ -67,6 +69,7 @@ module _ (x : Index) (s : Seen) (w p : ℕ) (kept : Kept) where
       location blocked (a-blocked a) = g .location
       location successor (a-successor a) = rw (in-row x s .location) (g .location)
       location startNode (a-start a) = g .location
+      location cut (a-cut a) = g .location
 
 -- ---- no later word changes what is kept of a node whose value was read
 
@@ -91,6 +94,7 @@ module _ (x : Index) (s : Seen) (w p q : ℕ) (kept : Kept) where
   settled-with successor (a-successor a) h =
       let r = in-row x s in record { below = rw (r .nodes) (h .below); apart = λ o. absurd (omega (arith, r .opener)) }
   settled-with startNode (a-start a) h = record { below = h .below; apart = λ o. absurd (omega arith) }
+  settled-with cut (a-cut a) h = record { below = h .below; apart = λ o. absurd (omega arith) }
 
   same-with : (k : TableKind) → Step s w k → Settled s q → Same q kept (keptWithKind k s w p kept)
   unfolding keptWithKind
@@ -107,6 +111,7 @@ module _ (x : Index) (s : Seen) (w p q : ℕ) (kept : Kept) where
   same-with blocked (a-blocked a) h = record { entry = refl; zone = refl }
   same-with successor (a-successor a) h = record { entry = refl; zone = refl }
   same-with startNode (a-start a) h = record { entry = refl; zone = refl }
+  same-with cut (a-cut a) h = record { entry = refl; zone = refl }
 
 module _ (x : Index) where
   settled-end : (s : Seen) (p q : ℕ) (kept : Kept) (ws : List ℕ) → Walk x s p ws → Settled s q → Same q kept (keptEnd x s kept p ws)
@@ -175,6 +180,7 @@ module _ (x : Index) (s : Seen) (w p : ℕ) (kept : Kept) (ws : List ℕ) (end :
   kept-with blocked n (a-blocked a) f h = absurd (a .not-node o)
   kept-with successor n (a-successor a) f h = absurd (a .not-node o)
   kept-with startNode n (a-start a) f h = absurd (a .not-node o)
+  kept-with cut n (a-cut a) f h = absurd (a .not-node o)
 
 module _ (x : Index) where
   pub kept-end :

@@ -8,7 +8,7 @@ use borrow.Author.Tests.{eqb-true, ltb-true}
 use lib.Dec.{eqb}
 use Rattle.zone.specs.Words.{kind, boundOf}
 use Rattle.zone.proofs.Bools.{false-true}
-use Rattle.model.specs.TableKinds.{TableKind, noKind, tableHead, node, nodeBound, value, blocked, successor, startNode, tableNumber, tableKindOf}
+use Rattle.model.specs.TableKinds.{TableKind, noKind, tableHead, node, nodeBound, value, blocked, successor, startNode, cut, tableNumber, tableKindOf}
 use Rattle.model.specs.Grammar.{tableFollows, numbered?, mayFollow?, tableFollows?}
 use Rattle.model.specs.declared.index.Index.{Index}
 use Rattle.table.specs.Fields.{fields?}
@@ -35,6 +35,7 @@ pub data Step (s : Seen) (w : ℕ) : TableKind → Type 0 where
   a-blocked : Inside s → Step s w blocked
   a-successor : Inside s → Step s w successor
   a-start : Inside s → Step s w startNode
+  a-cut : Inside s → Step s w cut
 
 -- an opener behind which a kind may not stand
 never : (o n m : ℕ) → tableFollows? o n ≡ true → tableFollows? m n ≡ false → o ≢ m
@@ -60,6 +61,7 @@ step-of value x s w c g = a-value (before-value (s .opener) (g .follows))
 step-of blocked x s w c g = a-blocked (inside s blocked (g .follows) refl refl refl)
 step-of successor x s w c g = a-successor (inside s successor (g .follows) refl refl refl)
 step-of startNode x s w c g = a-start (inside s startNode (g .follows) refl refl refl)
+step-of cut x s w c g = a-cut (inside s cut (g .follows) refl refl refl)
 
 -- a pass without a fault ends behind the start node
 ends : (s : Seen) → lastFault s ≡ fault.None → s .opener ≡ tableNumber startNode

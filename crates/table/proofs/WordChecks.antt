@@ -5,7 +5,7 @@ use mathlib.Core.Bool.{Bool, true, false, not, _||_}
 use borrow.Author.Tests.{eqb-true, eqb-false}
 use lib.Dec.{eqb, ltb}
 use Rattle.zone.specs.Words.{kind, boundFields?}
-use Rattle.model.specs.TableKinds.{TableKind, noKind, tableHead, node, nodeBound, value, blocked, successor, startNode, tableNumber}
+use Rattle.model.specs.TableKinds.{TableKind, noKind, tableHead, node, nodeBound, value, blocked, successor, startNode, cut, tableNumber}
 use Rattle.table.specs.Fields.{fields?}
 use Rattle.table.specs.Reading.{limit?}
 use Rattle.table.specs.Scan.{rowsAllowKind?, rowsAllowAt?, fieldsAt?, limitAt?}
@@ -23,10 +23,10 @@ module _ (s : Seen) (w : ℕ) where
   unfolding fieldsAt?
   fields-at clocks locations k e = rw (kind-is k w e)
 
-  -- a word that is no node, row or start node stands whatever rows are due
-  pub rows-apart : IsNot node w → IsNot blocked w → IsNot successor w → IsNot startNode w → true ≡ rowsAllowAt? s w
+  -- a word that is no node, row, start node or cut stands whatever rows are due
+  pub rows-apart : IsNot node w → IsNot blocked w → IsNot successor w → IsNot startNode w → IsNot cut w → true ≡ rowsAllowAt? s w
   unfolding rowsAllowAt? rowsAllowKind?
-  rows-apart n a b c = by-kind (λ (k : TableKind). true ≡ rowsAllowKind? k s) w refl other
+  rows-apart n a b c d = by-kind (λ (k : TableKind). true ≡ rowsAllowKind? k s) w refl other
     where
       other : (k : TableKind) → kind w ≡ tableNumber k → true ≡ rowsAllowKind? k s
       other noKind q = refl
@@ -37,6 +37,7 @@ module _ (s : Seen) (w : ℕ) where
       other blocked q = absurd (a q)
       other successor q = absurd (b q)
       other startNode q = absurd (c q)
+      other cut q = absurd (d q)
 
   -- the limit is one on nodes alone
   no-limit : IsNot node w → true ≡ limitAt? s w
@@ -52,6 +53,7 @@ module _ (s : Seen) (w : ℕ) where
       other blocked q = refl
       other successor q = refl
       other startNode q = refl
+      other cut q = refl
 
   node-limit : kind w ≡ tableNumber node → ltb (s .nodes) 64 ≡ limitAt? s w
   unfolding limitAt? limit?

@@ -1,9 +1,9 @@
--- Document 01, "Words": the fields of a table's words, their ranges and spare bits. Assumes nothing.
+-- Document 01, "Words", and document 02, card 1: the fields of a table's words, their ranges and spare bits. Assumes nothing.
 use Prim.Native.Nat.{ℕ}
 use mathlib.Core.Bool.{Bool, false, _&&_}
 use lib.Dec.{eqb, leb, ltb}
 use Rattle.zone.specs.Words.{bits, boundFields?}
-use Rattle.model.specs.TableKinds.{TableKind, noKind, tableHead, node, nodeBound, value, blocked, successor, startNode}
+use Rattle.model.specs.TableKinds.{TableKind, noKind, tableHead, node, nodeBound, value, blocked, successor, startNode, cut}
 
 -- 7 table head: V (27-0, at least 1)
 abbrev pub wholeOf : ℕ → ℕ
@@ -38,6 +38,10 @@ numberOf w = bits 5 0 w
 abbrev pub numberFields? : ℕ → Bool
 numberFields? w = eqb (bits 27 6 w) 0
 
+-- D cut (document 02, card 1): the fields of a bound, j always 0
+abbrev pub cutFields? : ℕ → ℕ → Bool
+cutFields? C w = boundFields? C w && eqb (bits 23 20 w) 0
+
 -- the fields of a word of a kind are in their ranges and its spare bits zero. The model has C clocks and so many locations, and the table's
 -- head gives V
 unfoldable pub fields? : TableKind → ℕ → ℕ → ℕ → ℕ → Bool
@@ -49,3 +53,4 @@ fields? value C locations whole w = valueFields? whole w
 fields? blocked C locations whole w = blockedFields? w
 fields? successor C locations whole w = numberFields? w
 fields? startNode C locations whole w = numberFields? w
+fields? cut C locations whole w = cutFields? C w

@@ -7,7 +7,8 @@ use lib.ListN.{length}
 use lib.Dec.{ltb}
 use Rattle.zone.specs.Squares.{universe}
 use Rattle.zone.specs.Stores.{putAt, withWordAt}
-use Rattle.model.specs.TableKinds.{TableKind, noKind, tableHead, node, nodeBound, value, blocked, successor, startNode, isTable, tableKindOf}
+use Rattle.model.specs.TableKinds.{TableKind, noKind, tableHead, node, nodeBound, value, blocked, successor, startNode, cut}
+use Rattle.model.specs.TableKinds.{isTable, tableKindOf}
 use Rattle.model.specs.declared.index.Index.{Index}
 use Rattle.table.specs.Fields.{numberOf}
 use Rattle.table.specs.Nodes.{nodeCount, entryOf, putEntry}
@@ -44,6 +45,7 @@ keptWithKind value s w p k = keep (putEntry (entryOf (s .location) w p) (s .node
 keptWithKind blocked s w p k = k
 keptWithKind successor s w p k = k
 keptWithKind startNode s w p k = k
+keptWithKind cut s w p k = k
 
 unfoldable pub keptWith : Seen → ℕ → ℕ → Kept → Kept
 keptWith s w p k = keptWithKind (tableKindOf w) s w p k

@@ -1,4 +1,4 @@
--- Document 01, "The four calls and their refusals": the refusals of a table's words, 11 to 14. Assumes nothing.
+-- Document 01, "The four calls and their refusals", and document 02, card 1: the refusals of a table's words, 11 to 14. Assumes nothing.
 use Prim.Native.Nat.{ℕ, suc}
 use mathlib.Core.Bool.{Bool, true, false, not, cond, _&&_, _||_}
 use mathlib.Core.List.{List, [], _∷_, _++_}
@@ -6,7 +6,7 @@ use lib.ListN.{getD, length, drop}
 use lib.Dec.{eqb, ltb}
 use Rattle.zone.specs.Words.{kind}
 use Rattle.zone.specs.Checks.{Answer, refused, accepted, Check, test}
-use Rattle.model.specs.TableKinds.{TableKind, noKind, tableHead, node, nodeBound, value, blocked, successor, startNode}
+use Rattle.model.specs.TableKinds.{TableKind, noKind, tableHead, node, nodeBound, value, blocked, successor, startNode, cut}
 use Rattle.model.specs.TableKinds.{tableNumber, isTable, tableKindOf}
 use Rattle.model.specs.Before.{openerFrom, countOf}
 use Rattle.model.specs.Grammar.{tableFollows?}
@@ -24,9 +24,8 @@ unfoldable pub lastLocation : List ℕ → ℕ
 lastLocation [] = 0
 lastLocation (w ∷ ws) = cond (isTable node w) (locationOf w) (lastLocation ws)
 
--- the actions of the last node whose row is not complete, each by the number of its edges, how many B words stand in the first such row, and
--- behind a value whether the node's location is a target. No check reads `target` yet: it is for document 02, card 1, where a word may stand
--- in place of a node's rows if its location is no target
+-- the rows of the last node that are not complete, each by the number of its B words, how many of those stand in the first such row, and
+-- behind a value whether the node's location is a target
 pub record Due : Type 0 where
   pub rows : List ℕ
   pub begun : ℕ
@@ -52,6 +51,10 @@ unfoldable pub dueAfterSuccessor : Due → Due
 dueAfterSuccessor d =
     cond (eqb (suc (d .begun)) (getD (d .rows) 0 0)) (dueAfterRow d) (record { rows = d .rows; begun = suc (d .begun); target = d .target })
 
+-- behind a cut two B words are due, in place of all rows
+unfoldable pub twoDue : Due → Due
+twoDue d = record { rows = 2 ∷ []; begun = 0; target = d .target }
+
 -- with a word of a kind more, behind a node of the location l
 unfoldable pub dueWith : TableKind → Model → ℕ → Due → Due
 dueWith noKind M l d = noneDue
@@ -62,6 +65,7 @@ dueWith value M l d = allDue M l
 dueWith blocked M l d = dueAfterRow d
 dueWith successor M l d = dueAfterSuccessor d
 dueWith startNode M l d = noneDue
+dueWith cut M l d = twoDue d
 
 unfoldable pub due : Model → List ℕ → Due
 due M [] = noneDue
@@ -74,7 +78,7 @@ none? [] = true
 none? (n ∷ ns) = false
 
 -- one A, or one B per edge, for each action in order: an A stands where a row begins, a B where a row is due, and the next node or the start
--- node where none is
+-- node where none is. A cut stands where the node's location is no target
 unfoldable pub rowsAllow? : TableKind → Due → Bool
 rowsAllow? noKind d = true
 rowsAllow? tableHead d = true
@@ -84,6 +88,7 @@ rowsAllow? value d = true
 rowsAllow? blocked d = not (none? (d .rows)) && eqb (d .begun) 0
 rowsAllow? successor d = not (none? (d .rows))
 rowsAllow? startNode d = none? (d .rows)
+rowsAllow? cut d = not (d .target)
 
 -- 13: at most 64 nodes; so many stand before
 unfoldable pub limit? : TableKind → ℕ → Bool
@@ -95,6 +100,7 @@ limit? value nodes = true
 limit? blocked nodes = true
 limit? successor nodes = true
 limit? startNode nodes = true
+limit? cut nodes = true
 
 -- at one word the lowest number wins. 11: its kind is allowed here, rows included. 12: its fields are in their ranges, its spare bits zero, and
 -- a node's location exists

@@ -1,12 +1,13 @@
 -- Algorithm: what the words read so far come to, and the first check that the next word fails. Assumes nothing.
 use Prim.Native.Nat.{ℕ, _+_, _-_, _≤_, _<_}
 use mathlib.Core.Path.{_≡_}
-use mathlib.Core.Bool.{Bool, true, false, cond, _&&_}
+use mathlib.Core.Bool.{Bool, true, false, not, cond, _&&_}
 use mathlib.Core.List.{List, [], _∷_}
 use lib.ListN.{getD}
 use lib.Dec.{eqb, ltb}
 use Rattle.zone.specs.Words.{kind}
-use Rattle.model.specs.TableKinds.{TableKind, noKind, tableHead, node, nodeBound, value, blocked, successor, startNode, tableNumber, tableKindOf}
+use Rattle.model.specs.TableKinds.{TableKind, noKind, tableHead, node, nodeBound, value, blocked, successor, startNode, cut}
+use Rattle.model.specs.TableKinds.{tableNumber, tableKindOf}
 use Rattle.model.specs.Grammar.{numbered?, tableFollows?}
 use Rattle.model.specs.Openers.{tableOpener?}
 use Rattle.model.specs.declared.index.Index.{Index}
@@ -44,6 +45,7 @@ rowsAllowKind? value s = true
 rowsAllowKind? blocked s = ltb 0 (s .rows) && eqb (s .begun) 0
 rowsAllowKind? successor s = ltb 0 (s .rows)
 rowsAllowKind? startNode s = eqb (s .rows) 0
+rowsAllowKind? cut s = not (s .target)
 
 unfoldable pub rowsAllowAt? : Seen → ℕ → Bool
 rowsAllowAt? s w = rowsAllowKind? (tableKindOf w) s
@@ -181,6 +183,23 @@ withBegun s =
 abbrev pub withSuccessor : Index → Seen → Seen
 withSuccessor x s = cond (eqb (s .begun + 1) (s .size)) (withRow x s (tableNumber successor)) (withBegun s)
 
+-- two successors are due, as if they were the one row that the node has
+abbrev pub withCut : Seen → Seen
+withCut s =
+    record {
+      opener = tableNumber cut;
+      whole = s .whole;
+      nodes = s .nodes;
+      location = s .location;
+      target = s .target;
+      action = 0;
+      rows = 1;
+      size = 2;
+      begun = 0;
+      start = s .start;
+      place = s .place;
+    }
+
 abbrev pub withStart : Seen → ℕ → ℕ → Seen
 withStart s w p =
     record {
@@ -206,6 +225,7 @@ seenWithKind value x s w p = withValue x s
 seenWithKind blocked x s w p = withRow x s (tableNumber blocked)
 seenWithKind successor x s w p = withSuccessor x s
 seenWithKind startNode x s w p = withStart s w p
+seenWithKind cut x s w p = withCut s
 
 unfoldable pub seenWith : Index → Seen → ℕ → ℕ → Seen
 seenWith x s w p = seenWithKind (tableKindOf w) x s w p
@@ -221,7 +241,7 @@ pub record IndexFits (x : Index) : Type 0 where
 
 -- the openers behind which rows may be due, and those behind which there is a node
 abbrev pub rowOpeners : List TableKind
-rowOpeners = value ∷ blocked ∷ successor ∷ []
+rowOpeners = value ∷ blocked ∷ successor ∷ cut ∷ []
 
 abbrev pub nodeOpeners : List TableKind
 nodeOpeners = node ∷ startNode ∷ rowOpeners

@@ -2,7 +2,8 @@
 ghost use mathlib.Core.Path.{_≡_};
 ghost use Prim.Native.Nat.{_<_, _^_};
 ghost use Rattle.table.specs.Fields.{wholeOf, tableHeadFields?, locationOf, nodeFields?, valueOf, valueFields?, blockedFields?};
-ghost use Rattle.table.specs.Fields.{numberOf, numberFields?};
+ghost use Rattle.table.specs.Fields.{numberOf, numberFields?, cutFields?};
+use zone::words;
 
 // V, as a table's head word gives it.
 pub(crate) fn whole_of(word: u32) -> u32
@@ -65,4 +66,11 @@ pub(crate) fn number_fields(word: u32) -> bool
     ensures { λ r. ⌜ r ≡ numberFields? word ⌝ }
 {
     word / 0x40 % 0x40_0000 == 0
+}
+
+// Whether a word of kind D has the fields of a bound over clocks 1 to `clocks`, with j 0.
+pub(crate) fn cut_fields(clocks: u32, word: u32) -> bool
+    ensures { λ r. ⌜ r ≡ cutFields? clocks word ⌝ }
+{
+    words::bound_fields(clocks, word) & (words::second_clock(word) == 0)
 }

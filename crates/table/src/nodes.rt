@@ -3,7 +3,8 @@ ghost use mathlib.Core.Path.{_≡_};
 ghost use Rattle.table.specs.Nodes.{entryOf, entryAt, putEntry, HasNode};
 use crate::fields;
 
-// What is kept of a node's words: its location, its value, and the index of its value word. Its rows stand behind that word.
+// What is kept of a node's words: its location, its value, and the index of its value word. Its rows or its cut stand behind that
+// word.
 pub struct NodeEntry {
     pub location: u32,
     pub value: u32,

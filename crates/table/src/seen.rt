@@ -5,7 +5,7 @@ ghost use Rattle.zone.specs.Words.{kind};
 ghost use Rattle.model.specs.TableKinds.{nodeBound, tableNumber};
 ghost use Rattle.model.specs.Grammar.{tableFollows?};
 ghost use Rattle.table.specs.Scan.{rowsAllowAt?, fieldsAt?, limitAt?, faultAt, lastFault};
-ghost use Rattle.table.specs.Scan.{withHead, withNode, withValue, withRow, withSuccessor, withStart, seenWith};
+ghost use Rattle.table.specs.Scan.{withHead, withNode, withValue, withRow, withSuccessor, withCut, withStart, seenWith};
 ghost use Rattle.table.specs.Scan.{rowsAt, sizeAt, SizeAsked, IndexFits, WithinLimits};
 ghost use Rattle.table.specs.declared.seen.Fault.the-variants as fault;
 use crate::fields;
@@ -21,7 +21,7 @@ pub(crate) struct Seen {
     pub location: u32, // of the last node
     pub target: bool, // behind its value: whether that location is a target
     pub action: usize, // the first action of the last node whose row is not complete
-    pub rows: usize, // how many rows of the last node are not complete
+    pub rows: usize, // how many rows of the last node are not complete; the two successors of a cut count as one
     pub size: usize, // how many successors the first of them has, unless it is blocked; 0 where none is due
     pub begun: usize, // how many of those stand
     pub start: u32, // the number of the start node
@@ -83,6 +83,7 @@ impl Seen {
             kinds::BLOCKED => (0 < self.rows) & (self.begun == 0),
             kinds::SUCCESSOR => 0 < self.rows,
             kinds::START_NODE => self.rows == 0,
+            kinds::CUT => !self.target,
             _ => true,
         }
     }
@@ -100,6 +101,7 @@ impl Seen {
             kinds::BLOCKED => fields::blocked_fields(word),
             kinds::SUCCESSOR => fields::number_fields(word),
             kinds::START_NODE => fields::number_fields(word),
+            kinds::CUT => fields::cut_fields(clocks, word),
             _ => false,
         }
     }
@@ -226,6 +228,19 @@ impl Seen {
         next
     }
 
+    // With a cut, behind which two successors are due in place of all rows.
+    pub(crate) fn with_cut(self) -> Seen
+        ensures { λ r. ⌜ r ≡ withCut self ⌝ }
+    {
+        let mut next = self;
+        next.opener = kinds::CUT;
+        next.action = 0;
+        next.rows = 1;
+        next.size = 2;
+        next.begun = 0;
+        next
+    }
+
     // With the start node's word at a place.
     pub(crate) fn with_start(self, word: u32, place: usize) -> Seen
         ensures { λ r. ⌜ r ≡ withStart self word place ⌝ }
@@ -250,6 +265,7 @@ impl Seen {
             kinds::BLOCKED => self.with_row(index, kinds::BLOCKED),
             kinds::SUCCESSOR => self.with_successor(index),
             kinds::START_NODE => self.with_start(word, place),
+            kinds::CUT => self.with_cut(),
             _ => self,
         }
     }

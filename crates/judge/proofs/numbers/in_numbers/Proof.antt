@@ -1,4 +1,4 @@
--- Proof of `in_numbers`: by the 18 cases of the verdict, each with the number and the values of the definition.
+-- Proof of `in_numbers`: by the 21 cases of the verdict, each with the number and the values of the definition.
 use mathlib.Core.Path.{_∙_}
 use borrow.Author.Needs.{needs}
 use Rattle.judge.specs.Verdicts.{verdictAnswer}
@@ -78,14 +78,19 @@ returns-18 : tie.Need-returns-18
 unfolding verdictAnswer
 returns-18 c = c .refusal17 .ensures ∙ rw (c .before .before .verdict18 .given .1)
 
+returns-19 : tie.Need-returns-19
+unfolding verdictAnswer
+returns-19 c = c .refusal18 .ensures ∙ rw (c .before .before .verdict19 .given .1)
+
+returns-20 : tie.Need-returns-20
+unfolding verdictAnswer
+returns-20 c = c .refusal19 .ensures ∙ rw (c .before .before .verdict20 .given .1)
+
+returns-21 : tie.Need-returns-21
+unfolding verdictAnswer
+returns-21 c = c .refusal20 .ensures ∙ rw (c .before .before .verdict21 .given .1)
+
 pub in-numbers-spec : {M : Type 1} → statement M
 in-numbers-spec =
     tie.close
-    (tie.spec (λ c. search needs) (λ c. search needs) (λ c κs. search needs) (λ c. search needs) (λ c κs. search needs) (λ c. search needs)
-    (λ c κs. search needs) (λ c. search needs) (λ c κs. search needs) (λ c. search needs) (λ c κs. search needs) (λ c. search needs)
-    (λ c κs. search needs) (λ c. search needs) (λ c κs. search needs) (λ c. search needs) (λ c κs. search needs) (λ c. search needs)
-    (λ c κs. search needs) (λ c. search needs) (λ c κs. search needs) (λ c. search needs) (λ c κs. search needs) (λ c. search needs)
-    (λ c κs. search needs) (λ c. search needs) (λ c κs. search needs) (λ c. search needs) (λ c κs. search needs) (λ c. search needs)
-    (λ c κs. search needs) (λ c. search needs) (λ c κs. search needs) (λ c. search needs) (λ c κs. search needs) returns returns-2 returns-3 returns-4
-    returns-5 returns-6 returns-7 returns-8 returns-9 returns-10 returns-11 returns-12 returns-13 returns-14 returns-15 returns-16 returns-17
-    returns-18)
+    (tie.spec (λ c. search needs) (λ c. search needs) (λ c κs. search needs) (λ c. search needs) (λ c κs. search needs) (λ c. search needs) (λ c κs. search needs) (λ c. search needs) (λ c κs. search needs) (λ c. search needs) (λ c κs. search needs) (λ c. search needs) (λ c κs. search needs) (λ c. search needs) (λ c κs. search needs) (λ c. search needs) (λ c κs. search needs) (λ c. search needs) (λ c κs. search needs) (λ c. search needs) (λ c κs. search needs) (λ c. search needs) (λ c κs. search needs) (λ c. search needs) (λ c κs. search needs) (λ c. search needs) (λ c κs. search needs) (λ c. search needs) (λ c κs. search needs) (λ c. search needs) (λ c κs. search needs) (λ c. search needs) (λ c κs. search needs) (λ c. search needs) (λ c κs. search needs) (λ c. search needs) (λ c κs. search needs) (λ c. search needs) (λ c κs. search needs) (λ c. search needs) (λ c κs. search needs) returns returns-2 returns-3 returns-4 returns-5 returns-6 returns-7 returns-8 returns-9 returns-10 returns-11 returns-12 returns-13 returns-14 returns-15 returns-16 returns-17 returns-18 returns-19 returns-20 returns-21)

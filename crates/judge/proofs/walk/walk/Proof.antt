@@ -31,7 +31,7 @@ returns : tie.Need-returns Inv-loop μ-loop
 returns c =
     let turn = c .before .before in
     node-found _ _ _ (turn .before .loop .inv) (turn .loop-test .taken) (c .before .walk-node .ensures)
-    (λ q. miss (1 ∷ 2 ∷ 3 ∷ 4 ∷ 5 ∷ []) 0 tt (rw q at (c .match .keys2)))
+    (λ q. miss (1 ∷ 2 ∷ 3 ∷ 4 ∷ 5 ∷ 6 ∷ 7 ∷ 8 ∷ []) 0 tt (rw q at (c .match .keys2)))
 
 add-n : tie.Need-add-n Inv-loop μ-loop
 add-n c =

@@ -1,7 +1,8 @@
--- Proof of `Seen::rows_allow`: by the word's kind: nodes, words of rows and the start node depend on the rows due, other words do not.
+-- Proof of `Seen::rows_allow`: by the word's kind: nodes, words of rows and the start node depend on the rows due, a cut on
+-- the location, other words on neither.
 use native.Mathlib.Omega.{arith}
 use borrow.Author.Needs.{needs}
-use Rattle.model.specs.TableKinds.{node, blocked, successor, startNode}
+use Rattle.model.specs.TableKinds.{node, blocked, successor, startNode, cut}
 use Rattle.table.specs.Scan.{rowsAllowKind?}
 use Rattle.table.proofs.WordChecks.{rows-at, rows-apart}
 use Rattle.table.proofs.seen.Seen.rows_allow.Statement.{statement}
@@ -23,6 +24,12 @@ returns-4 : tie.Need-returns-4
 unfolding rowsAllowKind?
 returns-4 c = rows-at _ _ startNode cc
 
+returns-5 : tie.Need-returns-5
+unfolding rowsAllowKind?
+returns-5 c = rows-at _ _ cut cc
+
 pub rows-allow-spec : {M : Type 1} → statement M
 rows-allow-spec =
-    tie.close (tie.spec (λ c κs. search needs) returns returns-2 returns-3 returns-4 (λ c. rows-apart _ _ (omega arith) (omega arith) (omega arith) (omega arith)))
+    tie.close
+    (tie.spec (λ c κs. search needs) returns returns-2 returns-3 returns-4 returns-5
+    (λ c. rows-apart _ _ (omega arith) (omega arith) (omega arith) (omega arith) (omega arith)))

@@ -3,7 +3,7 @@
 use mathlib.Core.Path.{_≡_, sym, _∙_}
 use borrow.Author.Needs.{needs}
 use Rattle.zone.specs.Words.{kind}
-use Rattle.model.specs.TableKinds.{TableKind, tableHead, node, value, blocked, successor, startNode, tableNumber}
+use Rattle.model.specs.TableKinds.{TableKind, tableHead, node, value, blocked, successor, startNode, cut, tableNumber}
 use Rattle.table.specs.Scan.{seenWithKind}
 use Rattle.table.proofs.Limits.{value-node, blocked-asks, successor-asks}
 use Rattle.table.proofs.ScanLaws.{seen-step, seen-stays}
@@ -54,15 +54,20 @@ unfolding seenWithKind
 returns-6 c = c .with-start .ensures ∙ seen-step _ _ _ _ startNode (named (c .before .before) startNode (c .before .match .keys6))
 
 returns-7 : tie.Need-returns-7
-returns-7 c =
+unfolding seenWithKind
+returns-7 c = c .with-cut .ensures ∙ seen-step _ _ _ _ cut (named (c .before .before) cut (c .before .match .keys7))
+
+returns-8 : tie.Need-returns-8
+returns-8 c =
     let ne : (k : TableKind) → (c .before .kind-of .result ≡ tableNumber k → ⊥) → kind (c .before .before .args .word) ≡ tableNumber k → ⊥
     = λ k h q. h (c .before .kind-of .ensures ∙ q) in
     let r = c .match .rest in
-    seen-stays _ _ _ _ (ne tableHead (r .0 .0 .0 .0 .0 .1)) (ne node (r .0 .0 .0 .0 .1)) (ne value (r .0 .0 .0 .1)) (ne blocked (r .0 .0 .1))
-    (ne successor (r .0 .1)) (ne startNode (r .1))
+    seen-stays _ _ _ _ (ne tableHead (r .0 .0 .0 .0 .0 .0 .1)) (ne node (r .0 .0 .0 .0 .0 .1)) (ne value (r .0 .0 .0 .0 .1))
+    (ne blocked (r .0 .0 .0 .1)) (ne successor (r .0 .0 .1)) (ne startNode (r .0 .1)) (ne cut (r .1))
 
 pub with-word-spec : {M : Type 1} → statement M
 with-word-spec =
     tie.close
     (tie.spec (λ c κs. search needs) (λ c κs. search needs) (λ c κs. search needs) with-value-requires with-row-requires
-    with-successor-requires (λ c κs. search needs) returns returns-2 returns-3 returns-4 returns-5 returns-6 returns-7)
+    with-successor-requires (λ c κs. search needs) (λ c κs. search needs) returns returns-2 returns-3 returns-4 returns-5 returns-6 returns-7
+    returns-8)

@@ -1,0 +1,326 @@
+-- Proof of `rows_finding`: before each row and successor nothing was found, and judging the rest gives what all rows give.
+use Prim.Native.Nat.{_+_, _*_, _≤_, _<_, _-_, _^_}
+use mathlib.Core.Path.{refl, sym, _∙_}
+use mathlib.Core.Logic.{⊎-elim}
+use mathlib.Core.List.{[], _∷_}
+use native.Mathlib.Omega.{arith}
+use borrow.Author.Tests.{eqb-true, eqb-false}
+use borrow.Author.Needs.{needs}
+use types.Run.{miss}
+use lib.ListN.{length}
+use Rattle.zone.proofs.Sizes.{tightens-fewer}
+use Rattle.model.specs.Scan.{zoneCount}
+use Rattle.model.specs.Index.{Kept as ModelKept, keep as keepModel}
+use Rattle.table.specs.Nodes.{nodeCount}
+use Rattle.table.specs.Index.{Kept as TableKept, keep as keepTable}
+use Rattle.judge.specs.Walk.{rowsFinding, NodeInRange}
+use Rattle.judge.proofs.WalkLaws.{product-small, AtRow, ReachAt, AtSuccessor, no-rows, node-rows}
+use Rattle.judge.proofs.WalkLaws.{rows-end, row-asked, row-place, row-not-blocked, row-blocked, row-successors}
+use Rattle.judge.proofs.WalkLaws.{successor-place, successor-found, successor-next, sum-large, row-end}
+use Rattle.judge.proofs.walk.rows_finding.Statement.{statement}
+use Rattle.judge.proofs.walk.rows_finding.Tie as tie
+
+abbrev Inv-loop : tie.InvT-loop
+Inv-loop list edges guards nodes zones n index node l first-action stop waited f₀ at₀ a reach empty blocked limit first sum₀ e₀ end f at sum e =
+    let m : ModelKept = keepModel index edges guards in
+    let k : TableKept = keepTable nodes zones in
+    AtSuccessor list m k (rowsFinding list m k n) waited (node .value) stop a reach empty limit first end f at sum e
+
+abbrev μ-loop : tie.MeasureT-loop
+μ-loop list edges guards nodes zones n index node l first-action stop waited f₀ at₀ a reach empty blocked limit first sum₀ e₀ end f at sum e = end - e
+
+abbrev Inv-rows : tie.InvT-rows
+Inv-rows list edges guards nodes zones n index node l first-action stop waited f₀ at₀ a₀ f at a =
+    let m : ModelKept = keepModel index edges guards in
+    let k : TableKept = keepTable nodes zones in
+    AtRow list m k (rowsFinding list m k n) waited (node .value) stop f at a
+
+abbrev μ-rows : tie.MeasureT-rows
+μ-rows list edges guards nodes zones n index node l first-action stop waited f₀ at₀ a₀ f at a = stop - a
+
+-- ---- the node, and the turns of the loops: at a row, at a successor
+abbrev Start : Type 0
+Start = tie.Start Inv-loop μ-loop Inv-rows μ-rows
+
+abbrev Loaded : Type 0
+Loaded = tie.After-load Inv-loop μ-loop Inv-rows μ-rows
+
+abbrev Other : Type 0
+Other = tie.After-struct-known Inv-loop μ-loop Inv-rows μ-rows
+
+abbrev RowTurn : Type 0
+RowTurn = tie.In-rows Inv-loop μ-loop Inv-rows μ-rows
+
+abbrev SuccessorTurn : Type 0
+SuccessorTurn = tie.In-loop Inv-loop μ-loop Inv-rows μ-rows
+
+abbrev start : Loaded → Start
+start c = c .before .before .before .before
+
+abbrev loaded : Other → Loaded
+loaded c = c .before
+
+abbrev other : RowTurn → Other
+other c = c .before .before .before .before .before .before .before .before .before
+
+abbrev rowTurn : SuccessorTurn → RowTurn
+rowTurn c = c .before .before .before .before .before .before .before .before .before .before .before
+
+abbrev model : Start → ModelKept
+model c = keepModel (c .args .t2) (c .args .edges .now) (c .args .guards .now)
+
+abbrev table : Start → TableKept
+table c = keepTable (c .args .nodes .now) (c .args .zones .now)
+
+located : (c : Loaded) → c .load .result .location < 16
+located c = rw (c .load .ensures) (start c .pre .location)
+
+fits : (c : Other) → let s = start (loaded c) in NodeInRange (s .args .list .now) (model s) (table s) (s .args .n)
+fits c = start (loaded c) .pre .node
+
+-- a slot of the model's zones is there
+guards-room : (c : Start) → zoneCount * 25 ≤ length (c .args .guards .now)
+guards-room c = c .pre .stores .model .zones
+
+zones-room : (c : Start) → nodeCount * 25 ≤ length (c .args .zones .now)
+zones-room c = c .pre .stores .table .zones
+
+-- the reach of a row
+reach-is :
+    (c : tie.After-kind-of Inv-loop μ-loop Inv-rows μ-rows) →
+    let k = c .before .before .before .before .before in
+    let s = start (loaded (other k)) in
+    ReachAt (s .args .list .now) (model s) (table s) (k .before .before .before .waited .result) (k .before .rows .a)
+    (c .before .before .before .reach-of .result) (c .before .before .is-empty .result)
+reach-is c = record {
+  reaches = rw (← c .before .before .before .before .load4 .ensures) (c .before .before .before .reach-of .ensures);
+  empties = c .before .before .is-empty .ensures;
+}
+
+load-requires : tie.Need-load-requires Inv-loop μ-loop Inv-rows μ-rows
+load-requires c κs =
+    let n = c .before .before .before .pre .number in
+    let room = c .before .before .before .pre .stores .table .nodes in
+    search needs
+
+element-copy-out-first-action : tie.Need-element-copy-out-first-action Inv-loop μ-loop Inv-rows μ-rows
+element-copy-out-first-action c = let l = located (loaded c) in omega arith
+
+add-end-action : tie.Need-add-end-action Inv-loop μ-loop Inv-rows μ-rows
+add-end-action c = let l = located (loaded (c .before)) in omega arith
+
+element-copy-out-end-action : tie.Need-element-copy-out-end-action Inv-loop μ-loop Inv-rows μ-rows
+element-copy-out-end-action c = let l = located (loaded (c .before)) in omega arith
+
+returns : tie.Need-returns Inv-loop μ-loop Inv-rows μ-rows
+returns c = no-rows _ _ _ _ (loaded (c .before .before .before) .load .ensures) refl refl (c .if1 .taken)
+
+load-requires-2 : tie.Need-load-requires-2 Inv-loop μ-loop Inv-rows μ-rows
+load-requires-2 c κs =
+    let s = start (loaded (c .before .before .before)) in
+    let n = s .pre .number in
+    let room = zones-room s in
+    search needs
+
+load-requires-3 : tie.Need-load-requires-3 Inv-loop μ-loop Inv-rows μ-rows
+load-requires-3 c κs =
+    let k = loaded (c .before .before .before .before) in
+    let l = located k in
+    let room = guards-room (start k) in
+    search needs
+
+waited-requires : tie.Need-waited-requires Inv-loop μ-loop Inv-rows μ-rows
+waited-requires c κs =
+    let k = c .before .before .before .before .before in
+    let f = fits k in (
+      rw (c .before .load2 .ensures) (tightens-fewer 1 2 _ (omega arith) (f .zone)),
+      rw (c .load3 .ensures, loaded k .load .ensures) (tightens-fewer 1 2 _ (omega arith) (f .invariant)),
+    )
+
+add-at : tie.Need-add-at Inv-loop μ-loop Inv-rows μ-rows
+add-at c =
+    let k = c .before .before .before .before .before .before .before in
+    let p = fits k .place in
+    let size = start (loaded k) .good .0 .0 in
+    rw (loaded k .load .ensures) (omega arith)
+
+rows-holds : tie.Need-rows-holds Inv-loop μ-loop Inv-rows μ-rows
+rows-holds c =
+    let w = c .before in
+    let k = w .before .before .before .before .before .before in
+    node-rows _ _ _ _ (loaded k .load .ensures) refl refl (fits k) (w .before .before .load2 .ensures) (w .before .load3 .ensures)
+    (w .waited .ensures)
+
+load-requires-4 : tie.Need-load-requires-4 Inv-loop μ-loop Inv-rows μ-rows
+load-requires-4 c κs =
+    let few = c .before .rows .inv .limit in
+    let room = guards-room (start (loaded (other c))) in
+    search needs
+
+reach-of-requires : tie.Need-reach-of-requires Inv-loop μ-loop Inv-rows μ-rows
+reach-of-requires c κs =
+    let k = c .before in
+    let i = k .before .rows .inv in
+    (i .tightens, rw (c .load4 .ensures) (row-asked _ _ _ i (k .rows-test .taken)))
+
+mul-kind-of : tie.Need-mul-kind-of Inv-loop μ-loop Inv-rows μ-rows
+mul-kind-of c =
+    let k = c .before .before .before in
+    let p = row-place _ _ _ (k .before .rows .inv) (k .rows-test .taken) in
+    let size = start (loaded (other k)) .good .0 .1 in
+    omega arith
+
+shared-slice-read-kind-of : tie.Need-shared-slice-read-kind-of Inv-loop μ-loop Inv-rows μ-rows
+shared-slice-read-kind-of c = let k = c .before .before .before .before in row-place _ _ _ (k .before .rows .inv) (k .rows-test .taken)
+
+add-at-2 : tie.Need-add-at-2 Inv-loop μ-loop Inv-rows μ-rows
+add-at-2 c =
+    let k = c .before .before .before .before .before .before .before in
+    let p = row-place _ _ _ (k .before .rows .inv) (k .rows-test .taken) in
+    let size = start (loaded (other k)) .good .0 .0 in
+    omega arith
+
+denominator-small : (c : Start) → c .args .t2 .denominator < 2 ^ 32
+denominator-small c = search needs
+
+cast-limit : tie.Need-cast-limit Inv-loop μ-loop Inv-rows μ-rows
+cast-limit c =
+    let d = denominator-small (start (loaded (other (c .before .before .before .before .before .before)))) in
+    omega arith
+
+mul-limit : tie.Need-mul-limit Inv-loop μ-loop Inv-rows μ-rows
+mul-limit c =
+    let k = loaded (other (c .before .before .before .before .before .before .before)) in
+    let p = product-small (start k .args .t2 .denominator) (k .load .result .value) (2 ^ 32) (2 ^ 32) (denominator-small (start k)) (search needs) in
+    omega arith
+
+add-e-end : tie.Need-add-e-end Inv-loop μ-loop Inv-rows μ-rows
+add-e-end c = let few = c .before .before .before .before .before .before .before .before .before .rows .inv .limit in search needs
+
+element-copy-out-e : tie.Need-element-copy-out-e Inv-loop μ-loop Inv-rows μ-rows
+element-copy-out-e c = let few = c .before .before .before .before .before .before .before .before .rows .inv .limit in search needs
+
+cast-e : tie.Need-cast-e Inv-loop μ-loop Inv-rows μ-rows
+cast-e c =
+    let k = c .before .before .before .before .before .before .before .before in
+    let few = start (loaded (other k)) .pre .stores .edges .at (k .before .rows .a) in
+    omega arith
+
+cast-e-end : tie.Need-cast-e-end Inv-loop μ-loop Inv-rows μ-rows
+cast-e-end c =
+    let k = c .before .before .before .before .before .before .before .before .before in
+    let few = start (loaded (other k)) .pre .stores .edges .at (k .before .rows .a + 1) in
+    omega arith
+
+element-copy-out-e-end : tie.Need-element-copy-out-e-end Inv-loop μ-loop Inv-rows μ-rows
+element-copy-out-e-end c = let few = c .before .before .before .before .before .before .before .before .before .rows .inv .limit in search needs
+
+loop-holds : tie.Need-loop-holds Inv-loop μ-loop Inv-rows μ-rows
+loop-holds c =
+    let w = c .before .before .before .before in
+    let k = w .before .before .before .before .before in
+    row-successors _ _ _ (k .before .rows .inv) (k .rows-test .taken) (reach-is w)
+    (λ q. eqb-false _ _ (c .before .before .before .if2 .left) (w .kind-of .ensures ∙ q)) (start (loaded (other k)) .pre .stores .edges) refl
+
+mul-number-of : tie.Need-mul-number-of Inv-loop μ-loop Inv-rows μ-rows
+mul-number-of c =
+    let p = successor-place _ _ _ (c .before .loop .inv) (c .loop-test .taken) in
+    let size = start (loaded (other (rowTurn c))) .good .0 .1 in
+    omega arith
+
+shared-slice-read-number-of : tie.Need-shared-slice-read-number-of Inv-loop μ-loop Inv-rows μ-rows
+shared-slice-read-number-of c = let k = c .before in successor-place _ _ _ (k .before .loop .inv) (k .loop-test .taken)
+
+shared-slice-read-successor : tie.Need-shared-slice-read-successor Inv-loop μ-loop Inv-rows μ-rows
+shared-slice-read-successor c =
+    let k = c .before .before .before in
+    let last = k .before .loop .inv .edges in
+    let room = start (loaded (other (rowTurn k))) .pre .stores .model .edges in
+    omega arith
+
+successor-requires : tie.Need-successor-requires Inv-loop μ-loop Inv-rows μ-rows
+successor-requires c κs =
+    let s = start (loaded (other (rowTurn (c .before .before .before)))) in
+    let n = c .before .number-of .ensures .1 in
+    let room = zones-room s in
+    let rows = s .pre .stores .table .nodes in
+    search needs
+
+add-sum : tie.Need-add-sum Inv-loop μ-loop Inv-rows μ-rows
+add-sum c =
+    let k = c .before .before .before .before .before .before .before in
+    let last = k .before .loop .inv .edges in
+    let s = k .before .loop .inv .small in
+    let a = c .before .before .before .successor .ensures .1 in
+    omega arith
+
+add-at-3 : tie.Need-add-at-3 Inv-loop μ-loop Inv-rows μ-rows
+add-at-3 c =
+    let k = c .before .before .before .before .before .before .before in
+    let p = successor-place _ _ _ (k .before .loop .inv) (k .loop-test .taken) in
+    let size = start (loaded (other (rowTurn k))) .good .0 .0 in
+    omega arith
+
+add-e : tie.Need-add-e Inv-loop μ-loop Inv-rows μ-rows
+add-e c =
+    let k = c .before .before .before .before .before .before .before in
+    let last = k .before .loop .inv .edges in
+    search needs
+
+loop-less : tie.Need-loop-less Inv-loop μ-loop Inv-rows μ-rows
+loop-less c = search needs
+
+loop-again : tie.Need-loop-again Inv-loop μ-loop Inv-rows μ-rows
+loop-again c =
+    let s = c .before .before .before .before .before in
+    let k = s .before .before in
+    let o = c .before .before .before .successor .ensures in
+    successor-next _ _ _ (k .before .loop .inv) (k .loop-test .taken) refl (s .number-of .ensures .0) (o .0) (c .before .enum-told .given .1) (o .1)
+
+add-a : tie.Need-add-a Inv-loop μ-loop Inv-rows μ-rows
+add-a c = let few = c .before .before .before .before .before .before .before .rows .inv .limit in search needs
+
+rows-less : tie.Need-rows-less Inv-loop μ-loop Inv-rows μ-rows
+rows-less c = search needs
+
+rows-again : tie.Need-rows-again Inv-loop μ-loop Inv-rows μ-rows
+rows-again c =
+    let w = c .before in
+    let k = w .before .before .before .before .before in
+    let i = k .before .rows .inv in
+    ⊎-elim
+    (λ y. row-blocked _ _ _ i (k .rows-test .taken) (reach-is w) (y .2) (y .3) (sym (w .kind-of .ensures) ∙ eqb-true _ _ (y .0 .taken)) (y .1 .left))
+    (λ y. row-end _ _ _ (y .4 .inv) (y .5 .left) (y .7) (y .8) (y .6 .left) (i .tightens) (i .limit))
+    (c .if2 .came)
+
+returns-2 : tie.Need-returns-2 Inv-loop μ-loop Inv-rows μ-rows
+returns-2 c = rows-end _ _ _ (c .before .rows .inv) (c .rows-test .left)
+
+returns-3 : tie.Need-returns-3 Inv-loop μ-loop Inv-rows μ-rows
+returns-3 c =
+    let w = c .before .before in
+    let k = w .before .before .before .before .before in
+    row-not-blocked _ _ _ (k .before .rows .inv) (k .rows-test .taken) (reach-is w) (sym (w .kind-of .ensures) ∙ eqb-true _ _ (c .before .if2 .taken))
+    (c .if3 .taken)
+
+-- the successor has a finding
+returns-4 : tie.Need-returns-4 Inv-loop μ-loop Inv-rows μ-rows
+returns-4 c =
+    let s = c .before .before .before in
+    let k = s .before .before in
+    successor-found _ _ _ (k .before .loop .inv) (k .loop-test .taken) refl (s .number-of .ensures .0) (c .before .successor .ensures .0)
+    (λ q. miss (1 ∷ 2 ∷ 3 ∷ 4 ∷ 5 ∷ 6 ∷ 7 ∷ 8 ∷ []) 0 tt (rw q at (c .match .keys2)))
+
+returns-5 : tie.Need-returns-5 Inv-loop μ-loop Inv-rows μ-rows
+returns-5 c = sum-large _ _ _ (c .before .before .loop .inv) (c .before .loop-test .left) (c .if4 .taken)
+
+pub rows-finding-spec : {M : Type 1} → statement M
+rows-finding-spec =
+    tie.close
+    (tie.spec Inv-loop μ-loop Inv-rows μ-rows load-requires (λ c. search needs)
+    element-copy-out-first-action (λ c. search needs) add-end-action element-copy-out-end-action (λ c. search needs) returns load-requires-2
+    load-requires-3 waited-requires add-at rows-holds (λ c. search needs) load-requires-4 reach-of-requires (λ c κs. search needs) mul-kind-of
+    shared-slice-read-kind-of (λ c κs. search needs) add-at-2 cast-limit (λ c. search needs) mul-limit element-copy-out-e
+    cast-e add-e-end element-copy-out-e-end cast-e-end loop-holds mul-number-of shared-slice-read-number-of
+    (λ c κs. search needs) (λ c. search needs) (λ c. search needs) shared-slice-read-successor successor-requires (λ c. search needs) add-sum
+    add-at-3 add-e loop-less loop-again add-a rows-less rows-again returns-2 returns-3 returns-4 returns-5)
