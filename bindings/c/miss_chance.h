@@ -1,8 +1,8 @@
 /*
  * The miss-chance judge, for C and C++: four calls over lists of 32-bit words, as document 01 ("The miss-chance judge: timelines, tables
- * and the bound they certify") defines them; docs/FORMAT.md of the repository says what the words are, docs/REFUSALS.md what each refusal
- * means. Link with target/staticlib/libmiss_chance.a, which `rt staticlib miss_chance` proves and writes at the repository's root (x86-64,
- * System V calling convention).
+ * and the bound they certify") and document 02, the change requests to it, define them; docs/FORMAT.md of the repository says what the words
+ * are, docs/REFUSALS.md what each refusal means. Link with target/staticlib/libmiss_chance.a, which `rt staticlib miss_chance` proves and
+ * writes at the repository's root (x86-64, System V calling convention).
  *
  * THE ANSWER. Each call writes its answer to the first four words of `answer` and returns true:
  *
@@ -41,8 +41,8 @@ extern "C" {
 #define MISS_CHANCE_ANSWER_WORDS 4
 
 /*
- * Word 0 of an answer: document 01's numbers, each with one name, the one that it has in the Rust package too. Later versions may add some;
- * whatever is not 0 is a refusal.
+ * Word 0 of an answer: the numbers of documents 01 and 02, each with one name, the one that it has in the Rust package too. Later versions
+ * may add some; whatever is not 0 is a refusal.
  */
 enum miss_chance_number {
     MISS_CHANCE_ACCEPTED = 0,
@@ -56,7 +56,7 @@ enum miss_chance_number {
     MISS_CHANCE_NO_START = 6,         /* no start state at any scale; place: the start word */
 
     /* The table's words; the place lies in the table. */
-    MISS_CHANCE_BAD_TABLE_KIND = 11,   /* missing word or wrong kind, rows and end included */
+    MISS_CHANCE_BAD_TABLE_KIND = 11,   /* missing word or wrong kind, rows, cuts and end included */
     MISS_CHANCE_BAD_TABLE_FIELD = 12,  /* field outside its range, spare bit set, or a node's location does not exist */
     MISS_CHANCE_OVER_TABLE_LIMIT = 13, /* a 65th node */
     MISS_CHANCE_NO_NODE = 14,          /* node number not there; place: the first such B or C word */
@@ -71,14 +71,19 @@ enum miss_chance_number {
     MISS_CHANCE_START_NOT_INSIDE = 21, /* the start valuations are not inside the start node's zone; place: the C word */
 
     /* The questions about zones. */
-    MISS_CHANCE_BAD_CLOCKS = 31,      /* C outside 1 to 4; place: 0 */
-    MISS_CHANCE_BAD_BOUND = 32,       /* a word of the zone, of the first one where there are two, is no good bound; place: in its list */
-    MISS_CHANCE_BAD_SECOND_BOUND = 33 /* a word of the second zone is no good bound; place: in its list */
+    MISS_CHANCE_BAD_CLOCKS = 31,       /* C outside 1 to 4; place: 0 */
+    MISS_CHANCE_BAD_BOUND = 32,        /* a word of the zone, of the first one where there are two, is no good bound; place: in its list */
+    MISS_CHANCE_BAD_SECOND_BOUND = 33, /* a word of the second zone is no good bound; place: in its list */
+
+    /* A cut, which the table has in place of a node's rows; the place is the B word of the part. */
+    MISS_CHANCE_PART_NOT_ABOVE = 51, /* the number of the part's node is not above the cut node's */
+    MISS_CHANCE_PART_MISMATCH = 52,  /* the part's node has another location or a larger value than the cut node */
+    MISS_CHANCE_PART_NOT_INSIDE = 53 /* the part is not inside its node's zone */
 };
 
 /*
  * Judges a table against a model. Acceptance: 0, b, V, node count; b / V is the certified fraction. Refusals: 1 to 6 with their place in the
- * model, which come first, then 11 to 21 with their place in the table.
+ * model, which come first, then 11 to 21 and 51 to 53 with their place in the table.
  */
 bool miss_chance_judge(const uint32_t *model, size_t model_words, const uint32_t *table, size_t table_words, uint64_t *answer,
                        size_t answer_words);

@@ -1,7 +1,7 @@
 //! The miss-chance judge: four calls over lists of 32-bit words, as document 01 ("The miss-chance
-//! judge: timelines, tables and the bound they certify") defines them; docs/FORMAT.md of the
-//! repository says what the words are. The work is done by a verified library; this crate lends it
-//! slices and turns its answers into enums.
+//! judge: timelines, tables and the bound they certify") and document 02, the change requests to
+//! it, define them; docs/FORMAT.md of the repository says what the words are. The work is done by a
+//! verified library; this crate lends it slices and turns its answers into enums.
 //!
 //! Document 01's worked timeline and its table:
 //!
@@ -49,7 +49,7 @@
 //! # Panics
 //!
 //! A call panics only if the library linked is not the one that this crate was written for: it then
-//! gave an answer that document 01 does not have.
+//! gave an answer that documents 01 and 02 do not have.
 
 #![deny(missing_docs)]
 #![deny(unsafe_code)]

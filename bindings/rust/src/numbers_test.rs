@@ -27,7 +27,7 @@ fn check<A: Debug>(read: fn(Words) -> A, refusal: fn(A) -> Option<Refusal>, list
 
 #[test]
 fn numbers_of_each_answer() {
-    let verdicts: Vec<u32> = (1..=6).chain(11..=21).collect();
+    let verdicts: Vec<u32> = (1..=6).chain(11..=21).chain(51..=53).collect();
     check(Verdict::from_words, Verdict::refusal, &verdicts);
     check(
         ModelAnswer::from_words,

@@ -2,8 +2,8 @@
 
 macro_rules! reasons {
     ($($name:ident = $number:literal: $meaning:literal $(, $place:literal)?;)*) => {
-        /// Why something is refused: document 01's numbers. docs/REFUSALS.md of the repository says
-        /// what a planner does about each. The C header has the same names.
+        /// Why something is refused: the numbers of documents 01 and 02. docs/REFUSALS.md of the
+        /// repository says what a planner does about each. The C header has the same names.
         #[derive(Clone, Copy, Debug, PartialEq, Eq)]
         #[non_exhaustive]
         pub enum Reason {
@@ -37,7 +37,7 @@ reasons! {
     NoLocation = 5: "an edge's location does not exist", "the first such edge";
     NoStart = 6: "no start state at any scale", "the start word";
 
-    BadTableKind = 11: "missing word in the table or wrong kind, rows and end included";
+    BadTableKind = 11: "missing word in the table or wrong kind, rows, cuts and end included";
     BadTableField = 12: "field of the table outside its range, spare bit set, or no such node location";
     OverTableLimit = 13: "a 65th node";
     NoNode = 14: "a node number is not there", "the first such B or C word";
@@ -53,10 +53,14 @@ reasons! {
     BadClocks = 31: "C outside 1 to 4", "0";
     BadBound = 32: "a word of the zone, of the first one where there are two, is no good bound";
     BadSecondBound = 33: "a word of the second zone is no good bound";
+
+    PartNotAbove = 51: "a part's node has a number not above the cut node's", "its B word";
+    PartMismatch = 52: "a part's node has another location or a larger value than the cut node", "its B word";
+    PartNotInside = 53: "a part of the cut node's zone is not inside its node's zone", "its B word";
 }
 
 impl Reason {
-    /// Document 01's number.
+    /// The documents' number.
     #[must_use]
     pub fn number(self) -> u32 {
         self as u32

@@ -24,7 +24,7 @@ pub enum Verdict {
     /// The table is accepted.
     Accepted(Certificate),
     /// The model is refused, with 1 to 6 and a place in the model, or else the table, with 11 to 21
-    /// and a place in the table.
+    /// or 51 to 53 and a place in the table.
     Refused(Refusal),
 }
 
@@ -51,7 +51,10 @@ impl Verdict {
                 whole: value(CALL, words, 2),
                 nodes: value(CALL, words, 3),
             }),
-            _ => Verdict::Refused(Refusal::from_words(CALL, (1..=6).chain(11..=21), words)),
+            _ => {
+                let numbers = (1..=6).chain(11..=21).chain(51..=53);
+                Verdict::Refused(Refusal::from_words(CALL, numbers, words))
+            }
         }
     }
 }

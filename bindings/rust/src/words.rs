@@ -7,10 +7,10 @@ pub(crate) fn value<T: TryFrom<u64>>(call: &str, words: Words, index: usize) -> 
     T::try_from(words[index]).unwrap_or_else(|_| broken(call, words))
 }
 
-/// The library gave what document 01 does not have.
+/// The library gave what documents 01 and 02 do not have.
 pub(crate) fn broken(call: &str, words: Words) -> ! {
     panic!(
-        "broken link: libmiss_chance.a answered {call} with {words:?}, which document 01 does not \
-         have"
+        "broken link: libmiss_chance.a answered {call} with {words:?}, which documents 01 and 02 \
+         do not have"
     )
 }

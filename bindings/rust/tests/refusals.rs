@@ -1,4 +1,4 @@
-//! Each refusal of document 01 once, with its case, number and place; and threads.
+//! Each refusal of documents 01 and 02 at least once, with its case, number and place; and threads.
 
 mod common;
 
@@ -66,6 +66,35 @@ fn of_a_table() {
     table_case(&with(T, 7, 0x90000001), 19, 4, Reason::SumTooLarge);
     table_case(&with(T, 10, 0xC0000001), 20, 10, Reason::WrongStart);
     table_case(&with(T, 2, 0x51000FFF), 21, 10, Reason::StartNotInside);
+}
+
+/// A table for M whose start node, any reading of the clock, is cut: at most 1 is node 1, above 1
+/// node 2.
+const CUT: [u32; 21] = [
+    0x7000000A, 0x80000000, 0x90000001, 0xD1001001, 0xB0000001, 0xB0000002, 0x80000000, 0x51001001,
+    0x90000001, 0xB0000003, 0xB0000004, 0x80000000, 0x50180FFF, 0x90000001, 0xB0000003, 0xB0000004,
+    0x81000000, 0x90000000, 0x82000000, 0x9000000A, 0xC0000000,
+];
+
+#[test]
+fn of_a_cut() {
+    let mut at_target = T.to_vec();
+    at_target.splice(10..10, [0xD1001001, 0xB0000001, 0xB0000001]);
+    let mut third = CUT.to_vec();
+    third.insert(6, 0xB0000002);
+
+    assert_eq!(judge(&M, &CUT).to_string(), "ACCEPTED 1 10 5");
+    table_case(&at_target, 11, 10, Reason::BadTableKind);
+    table_case(&third, 11, 6, Reason::BadTableKind);
+    table_case(&CUT[..5], 11, 5, Reason::BadTableKind);
+    table_case(&with(CUT, 3, 0xD0100FFF), 12, 3, Reason::BadTableField);
+    table_case(&with(CUT, 5, 0xB0000005), 14, 5, Reason::NoNode);
+    table_case(&with(CUT, 4, 0xB0000000), 51, 4, Reason::PartNotAbove);
+    table_case(&with(CUT, 5, 0xB0000000), 51, 5, Reason::PartNotAbove);
+    table_case(&with(CUT, 2, 0x90000000), 52, 4, Reason::PartMismatch);
+    table_case(&with(CUT, 5, 0xB0000003), 52, 5, Reason::PartMismatch);
+    table_case(&with(CUT, 7, 0x51001000), 53, 4, Reason::PartNotInside);
+    table_case(&with(CUT, 3, 0xD1081001), 53, 5, Reason::PartNotInside);
 }
 
 const GOOD: u32 = 0x51001000;

@@ -11,7 +11,7 @@ pub const T: [u32; 11] = [
 ];
 
 /// The list with one word changed.
-pub fn with(mut words: [u32; 11], place: usize, word: u32) -> [u32; 11] {
+pub fn with<const N: usize>(mut words: [u32; N], place: usize, word: u32) -> [u32; N] {
     words[place] = word;
     words
 }
