@@ -92,7 +92,7 @@ while IFS='|' read -r _ files command prints _; do
     rows=$((rows + 1))
     listed+=$files
 done <examples/README.md
-if ((rows >= 4)); then ok; else wrong "examples/README.md lists only $rows commands"; fi
+if ((rows >= 5)); then ok; else wrong "examples/README.md lists only $rows commands"; fi
 for file in examples/*.hex; do
     if [[ $listed = *"\`${file##*/}\`"* ]]; then ok; else wrong "$file is not listed in examples/README.md"; fi
     if [[ $(head -n 1 "$file") = '# '* ]]; then ok; else wrong "$file does not begin with a line on what it shows"; fi
@@ -137,6 +137,8 @@ sed '5s/.*/50180FFD/; 16s/.*/A0000000/; 17d' "$here/words.hex" >"$here/blocked.h
 says 'a blocked row' "$good" "$judge" "$here/blocked.hex"
 sed '15s/.*/90000000/' "$here/words.hex" >"$here/low.hex"
 says 'a value too low' 'REFUSED 19 4' "$judge" "$here/low.hex"
+hex examples/split.hex | sed '42s/.*/B0000003/; 43s/.*/B0000002/' >"$here/parts.hex"
+says 'the parts of a cut the wrong way round' 'REFUSED 53 11' "$judge" "$here/parts.hex"
 says 'a model and no table' 'REFUSED 11 0' "$judge" $model
 says 'a table and no model' 'REFUSED 1 0' "$judge" $table
 { hex $model && yes 51001000 | head -n $((16384 - 11)); } >"$here/full.hex"
