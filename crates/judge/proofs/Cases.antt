@@ -1,4 +1,5 @@
--- The cases of document 01 marked *, as one statement about the definitions: computed by the algorithms, whose answers are proved. Assumes nothing.
+-- The cases of document 01 marked *, as one statement about the definitions, and cases of cuts (document 02, card 1) as another: computed by the
+-- algorithms, whose answers are proved. Assumes nothing.
 use Prim.Native.Nat.{ℕ}
 use mathlib.Core.Path.{_≡_, refl, subst}
 use mathlib.Core.Bool.{true, false}
@@ -8,8 +9,9 @@ use Rattle.zone.specs.Moves.{masked?}
 use Rattle.zone.specs.Words.{boundOf, boundFields?}
 use Rattle.zone.specs.Checks.{Answer, refused, accepted}
 use Rattle.zone.specs.Questions.{AskedEmpty, AskedInside}
-use Rattle.zone.specs.Cells.{tighter?, tighterOf, sum, negative?}
+use Rattle.zone.specs.Cells.{tighter?, tighterOf, sum, negated, negative?}
 use Rattle.zone.specs.Squares.{listOf, withBound, passedBelow, source, beforeBelow, all?, empty?, inside?}
+use Rattle.zone.specs.Reading.{withWord}
 use Rattle.zone.specs.Stores.{zoneAt, putBelow, putAt, withWordAt}
 use Rattle.zone.proofs.Cases.{zone-cases}
 use Rattle.model.specs.Kinds.{among, kindOf}
@@ -30,6 +32,7 @@ use Rattle.acceptance.specs.Judging.{Judged}
 use Rattle.judge.specs.Verdicts.{verdictAnswer}
 use Rattle.judge.specs.Reaching.{withLanding, withLandings, enabledSquare, enabledBelow, enabledKeys, waitedSquare, reachSquare}
 use Rattle.judge.specs.Findings.{orElse}
+use Rattle.judge.specs.Cutting.{holdingSquare, restSquare, partFinding, cutFinding}
 use Rattle.judge.specs.Walk.{successorFinding, successorOutcome, successorsFrom, rowsFrom, rowsFinding, nodeFinding, nodesFrom, walked}
 use Rattle.judge.specs.Deciding.{startVerdict}
 use Rattle.acceptance.specs.declared.certificate.Certificate.{Certificate}
@@ -58,6 +61,16 @@ boundedTable w = take 7 table ++ (w ∷ drop 7 table)
 abbrev accepts : Answer Certificate
 accepts = accepted (record { b = 1; whole = 10; nodes = 3 })
 
+-- T with its start node cut where the clock is at most 1: node 1 has that part and node 2 every valuation, both the rows that node 0 had
+abbrev cutTable : List ℕ
+cutTable =
+    0x7000000A ∷ 0x80000000 ∷ 0x90000001 ∷ 0xD1001001 ∷ 0xB0000001 ∷ 0xB0000002 ∷ 0x80000000 ∷ 0x51001001 ∷ 0x90000001 ∷ 0xB0000003 ∷
+    0xB0000004 ∷ 0x80000000 ∷ 0x90000001 ∷ 0xB0000003 ∷ 0xB0000004 ∷ 0x81000000 ∷ 0x90000000 ∷ 0x82000000 ∷ 0x9000000A ∷ 0xC0000000 ∷ []
+
+-- `ACCEPTED 1 10 5`
+abbrev acceptsCut : Answer Certificate
+acceptsCut = accepted (record { b = 1; whole = 10; nodes = 5 })
+
 answers :
     (verdictAnswer (computed timeline table) ≡ accepts) ×
     (verdictAnswer (computed timeline (set table 3 0x90000000)) ≡ refused 19 4) ×
@@ -66,7 +79,14 @@ answers :
     (verdictAnswer (computed above blockedTable) ≡ accepts) ×
     (verdictAnswer (computed (set timeline 6 0x40020002) table) ≡ refused 4 7) ×
     (verdictAnswer (computed timeline (boundedTable 0x51001002)) ≡ refused 18 4) ×
-    (verdictAnswer (computed timeline (boundedTable 0x51001003)) ≡ accepts)
+    (verdictAnswer (computed timeline (boundedTable 0x51001003)) ≡ accepts) ×
+    (verdictAnswer (computed timeline cutTable) ≡ acceptsCut) ×
+    (verdictAnswer (computed timeline (set cutTable 5 0xB0000000)) ≡ refused 51 5) ×
+    (verdictAnswer (computed timeline (set cutTable 8 0x90000002)) ≡ refused 52 4) ×
+    (verdictAnswer (computed timeline (set (set cutTable 4 0xB0000002) 5 0xB0000001)) ≡ refused 53 5) ×
+    (verdictAnswer (computed timeline (set cutTable 7 0x51081001)) ≡ refused 53 4) ×
+    (verdictAnswer (computed timeline (set cutTable 3 0xD0101001)) ≡ refused 12 3) ×
+    (verdictAnswer (computed timeline (set cutTable 5 0xA0000000)) ≡ refused 11 5)
 unfolding
     masked? boundOf boundFields? tighter? tighterOf sum negative? listOf withBound passedBelow source beforeBelow all? empty? inside? zoneAt putBelow
     putAt withWordAt among kindOf tableKindOf follows tableFollows numbered? mayFollow? follows? tableFollows? fields? limit? adds? fieldsAt? limitAt?
@@ -75,8 +95,8 @@ unfolding
     scan.lastFault scan.firstRow scan.endRow scan.rowsAt scan.edgesAt scan.rowSize scan.sizeAt scan.seenWithKind scan.seenWith entryAt putEntry
     index.keptWithKind index.keptWith index.unlessFault index.scanFrom index.scanned index.numbersAnswer index.answerOf withLanding withLandings
     enabledSquare enabledBelow enabledKeys waitedSquare reachSquare successorFinding successorOutcome orElse successorsFrom rowsFrom
-    rowsFinding nodeFinding nodesFrom walked startVerdict verdictAnswer behindModel behindWords behindNodes judged judgedBehind judgedFrom computed
-answers = (refl, refl, refl, refl, refl, refl, refl, refl)
+    rowsFinding negated withWord holdingSquare restSquare partFinding cutFinding nodeFinding nodesFrom walked startVerdict verdictAnswer behindModel behindWords behindNodes judged judgedBehind judgedFrom computed
+answers = (refl, refl, refl, refl, refl, refl, refl, refl, refl, refl, refl, refl, refl, refl, refl)
 
 -- what is computed is the answer
 answered : (words list : List ℕ) (a : Answer Certificate) → verdictAnswer (computed words list) ≡ a → Judged words list a
@@ -107,4 +127,23 @@ cases = (
   zone-cases .0,
   zone-cases .1,
   zone-cases .2,
+)
+
+-- own number; larger value; parts exchanged; a part that reaches the bound, outside by strictness alone; j not 0; A behind D
+pub cut-cases :
+    Judged timeline cutTable acceptsCut ×
+    Judged timeline (set cutTable 5 0xB0000000) (refused 51 5) ×
+    Judged timeline (set cutTable 8 0x90000002) (refused 52 4) ×
+    Judged timeline (set (set cutTable 4 0xB0000002) 5 0xB0000001) (refused 53 5) ×
+    Judged timeline (set cutTable 7 0x51081001) (refused 53 4) ×
+    Judged timeline (set cutTable 3 0xD0101001) (refused 12 3) ×
+    Judged timeline (set cutTable 5 0xA0000000) (refused 11 5)
+cut-cases = (
+  answered _ _ _ (answers .8),
+  answered _ _ _ (answers .9),
+  answered _ _ _ (answers .10),
+  answered _ _ _ (answers .11),
+  answered _ _ _ (answers .12),
+  answered _ _ _ (answers .13),
+  answered _ _ _ (answers .14),
 )

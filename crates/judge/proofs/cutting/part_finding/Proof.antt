@@ -1,12 +1,13 @@
 -- Proof of `part_finding`: each branch is one of the definition.
 use mathlib.Core.Path.{sym, _∙_}
+use native.Mathlib.Omega.{arith}
 use borrow.Author.Needs.{needs}
 use Rattle.judge.proofs.PartLaws.{not-above, mismatched, part-empty, part-inside, part-outside}
 use Rattle.judge.proofs.cutting.part_finding.Statement.{statement}
 use Rattle.judge.proofs.cutting.part_finding.Tie as tie
 
 returns : tie.Need-returns
-returns c = not-above _ _ _ _ _ (c .if1 .taken)
+returns c = not-above _ _ _ _ _ (omega (arith, c .if1 .taken))
 
 -- both entries
 abbrev loaded : tie.After-struct-known4 → tie.After-load2
