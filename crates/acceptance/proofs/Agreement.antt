@@ -3,7 +3,7 @@
 use Prim.Native.Nat.{ℕ, zero, suc, _+_, _<_, zero-le, suc-le-suc}
 use mathlib.Core.Path.{_≡_}
 use mathlib.Core.Bool.{Bool, true, false, not, cond}
-use mathlib.Core.List.{List, [], _∷_, _++_}
+use mathlib.Core.List.{List, [], _∷_}
 use native.Mathlib.Omega.{arith}
 use native.Mathlib.Nat.{le-of-suc-le-suc, not-suc-le-zero, add-zero, zero-add}
 use lib.Dec.{T}
@@ -20,7 +20,7 @@ use Rattle.table.specs.Table.{Successor, Row, blockedRow, successorRow, Cut, Bo
 use Rattle.table.specs.Table.{successorsOf, rowsOf, cutOf, rowActions, bodyOf}
 use Rattle.table.specs.Scan.{rowSize}
 use Rattle.table.proofs.Shape.{RowStands, RowsStand, CutStands, BodyStands, NodeShaped, Shaped}
-use Rattle.acceptance.specs.Acceptance.{Pairwise, SumFits, SuccessorFits, RowFits, holdingPart, restPart, PartFits, BodyFits, HasWhole, NodeFits, Accepted}
+use Rattle.acceptance.specs.Acceptance.{Pairwise, SumFits, SuccessorFits, RowFits, holdingPart, PartFits, BodyFits, HasWhole, NodeFits, Accepted}
 use Rattle.acceptance.specs.Judging.{successorChecks, rowChecks, rowsChecks, partChecks, cutChecks, bodyChecks, nodeChecks, nodesChecks}
 use Rattle.acceptance.specs.Judging.{startChecks, tableChecks}
 
@@ -149,15 +149,15 @@ module _ (M : Model) (W : Table) where
         by false rs t h = rows-in-range N As rs t h
     body-fits (cutBody c) t h = record {
       elsewhere = t .0;
-      holding = part-fits n N _ (c .holding) (t .1) (all-left (partChecks W n N (holdingPart N (c .bound)) (c .holding)) _ holds);
-      rest = part-fits n N _ (c .rest) (t .2) (all-right (partChecks W n N (holdingPart N (c .bound)) (c .holding)) _ holds);
+      holding = part-fits n _ _ (c .holding) (t .1) (all-left (partChecks W n N (holdingPart N (c .bound)) (c .holding)) _ holds);
+      rest = part-fits n _ _ (c .rest) (t .2) (all-right (partChecks W n N (holdingPart N (c .bound)) (c .holding)) _ holds);
     }
       where
         by : (o : Bool) → T (not o) → AllHold (checksAt n N o As (cutBody c)) → AllHold (bodyChecks M W n N As (cutBody c))
         by true t h = absurd t
         by false t h = h
 
-        holds : AllHold (partChecks W n N (holdingPart N (c .bound)) (c .holding) ++ partChecks W n N (restPart N (c .bound)) (c .rest))
+        holds : AllHold (cutChecks W n N c)
         holds = by (locationAt M (N .location) .target) (t .0) h
 
     body-holds : (B : Body) → (T (locationAt M (N .location) .target) → HasWhole W N) → BodyFits M W n N B →
@@ -173,8 +173,8 @@ module _ (M : Model) (W : Table) where
         by : (o : Bool) → T (not o) → AllHold (checksAt n N o As (cutBody c))
         by true t = absurd t
         by false t =
-            all-join (partChecks W n N (holdingPart N (c .bound)) (c .holding)) _ (part-holds n N _ (c .holding) (f .holding))
-            (part-holds n N _ (c .rest) (f .rest))
+            all-join (partChecks W n N (holdingPart N (c .bound)) (c .holding)) _ (part-holds n _ _ (c .holding) (f .holding))
+            (part-holds n _ _ (c .rest) (f .rest))
 
     node-in-range : (words : List ℕ) → NodeShaped M W words N → AllHold (nodeChecks M W n N) → NodeFits M W n N
     unfolding nodeChecks
