@@ -1,7 +1,7 @@
-//! Judging a table that is read: refusals 15 to 21.
+//! Judging a table that is read: refusals 15 to 21 and 51 to 53.
 
 use super::model::{Action, Model};
-use super::table::{number_of, Node, Table, BLOCKED};
+use super::table::{number_of, Node, Table, BLOCKED, CUT};
 use super::zone::Zone;
 use super::{demand, Certificate, Refusal};
 
@@ -12,8 +12,8 @@ pub fn judge_table(model: &Model, table: &Table, words: &[u32]) -> Result<Certif
         table,
         words,
     };
-    for node in table.nodes.iter() {
-        judge.node(node)?;
+    for (number, node) in table.nodes.iter().enumerate() {
+        judge.node(number, node)?;
     }
     let start = &table.nodes[table.start];
     let at = table.start_place;
@@ -35,13 +35,16 @@ struct Judge<'a> {
 }
 
 impl Judge<'_> {
-    fn node(&self, node: &Node) -> Result<(), Refusal> {
+    fn node(&self, number: usize, node: &Node) -> Result<(), Refusal> {
         let location = &self.model.locations[node.location];
         if location.target {
             return demand(node.value == self.table.whole, 15, node.value_place);
         }
-        let waited = self.waited(node, &location.invariant);
         let mut place = node.value_place + 1;
+        if self.words[place] >> 28 == CUT {
+            return self.cut(number, node, place);
+        }
+        let waited = self.waited(node, &location.invariant);
         for action in &self.model.actions[location.first..location.end] {
             let mut reach = waited;
             reach.meet(&action.guard);
@@ -53,6 +56,23 @@ impl Judge<'_> {
                 self.row(node, action, &reach, place)?;
                 place += action.end - action.first;
             }
+        }
+        Ok(())
+    }
+
+    /// A node that is cut, by the word at this place: its parts lie in the two nodes named behind it.
+    fn cut(&self, number: usize, node: &Node, place: usize) -> Result<(), Refusal> {
+        let mut zone = node.zone;
+        zone.tighten(self.model.clocks);
+        let parts = zone.parts(self.model.clocks, self.words[place]);
+        for (place, part) in (place + 1..).zip(&parts) {
+            let next = number_of(self.words[place]);
+            demand(next > number, 51, place)?;
+            let next = &self.table.nodes[next];
+            let alike = next.location == node.location && next.value <= node.value;
+            demand(alike, 52, place)?;
+            let held = |part: &Zone| part.inside_after_reset(self.model.clocks, 0, &next.zone);
+            demand(part.as_ref().is_none_or(held), 53, place)?;
         }
         Ok(())
     }

@@ -2,7 +2,7 @@
 
 use super::few::Few;
 use super::model::{Action, Model};
-use super::zone::Zone;
+use super::zone::{clocks_of, good_fields, Zone};
 use super::{demand, Refusal};
 
 const HEAD: u32 = 7;
@@ -11,6 +11,7 @@ const VALUE: u32 = 9;
 pub const BLOCKED: u32 = 10;
 const SUCCESSOR: u32 = 11;
 const START_NODE: u32 = 12;
+pub const CUT: u32 = 13;
 
 pub struct Table {
     /// V.
@@ -27,7 +28,7 @@ pub struct Table {
 pub struct Node {
     pub location: usize,
     pub value: u32,
-    /// The rows stand behind this place.
+    /// The rows, or the cut, stand behind this place.
     pub value_place: usize,
     pub zone: Zone,
 }
@@ -59,7 +60,7 @@ impl Table {
         }
     }
 
-    /// A node with its rows, from a place on; hands back the place behind it.
+    /// A node with its rows or its cut, from a place on; hands back the place behind it.
     fn node(&mut self, model: &Model, words: &[u32], place: usize) -> Result<usize, Refusal> {
         let location = fields(words, place, NODE)?;
         let number = (location >> 24) as usize;
@@ -81,8 +82,18 @@ impl Table {
         let actions = &model.actions[location.first..location.end];
         match location.target {
             true => Ok(place + 1),
+            false if is_at(words, place + 1, CUT) => self.cut(model.clocks, words, place + 1),
             false => self.rows(actions, words, place + 1),
         }
+    }
+
+    /// A cut bounds one clock from above, and two node numbers stand behind it.
+    fn cut(&mut self, clocks: u32, words: &[u32], place: usize) -> Result<usize, Refusal> {
+        let [_, j] = clocks_of(words[place]);
+        demand(good_fields(words[place], clocks) && j == 0, 12, place)?;
+        self.number(words, place + 1, SUCCESSOR)?;
+        self.number(words, place + 2, SUCCESSOR)?;
+        Ok(place + 3)
     }
 
     fn rows(
@@ -115,7 +126,9 @@ impl Table {
 
     /// 14, at the first word whose node is not there.
     fn first_missing(&self, words: &[u32]) -> Refusal {
-        let missing = |&word: &u32| word >> 28 >= SUCCESSOR && number_of(word) >= self.nodes.len();
+        let numbers = [SUCCESSOR, START_NODE];
+        let missing =
+            |&word: &u32| numbers.contains(&(word >> 28)) && number_of(word) >= self.nodes.len();
         let place = words.iter().position(missing);
         Refusal {
             number: 14,

@@ -41,14 +41,12 @@ impl Zone {
     ) -> Result<usize, Refusal> {
         while place < words.len() && words[place] >> 28 == KIND {
             let word = words[place];
-            let (i, j, shifted) = (word >> 24 & 15, word >> 20 & 15, word & 0x1FFF);
-            let spare = word & 0x0007_E000;
-            let one_clock = !single || i == 0 || j == 0;
-            if i == j || i > clocks || j > clocks || shifted == 0 || spare != 0 || !one_clock {
+            let one_clock = !single || clocks_of(word).contains(&0);
+            if !good_fields(word, clocks) || !one_clock {
                 return Err(Refusal { number, place });
             }
-            let bound = 2 * (shifted as i32 - 4096) + (1 - (word >> 19 & 1) as i32);
-            self.lower(i as usize, j as usize, bound);
+            let [i, j] = clocks_of(word);
+            self.lower(i, j, bound_of(word));
             place += 1;
         }
         Ok(place)
@@ -89,6 +87,36 @@ impl Zone {
         (0..SIZE).any(|clock| self.0[clock][clock] < AT_MOST_0)
     }
 
+    /// Of a tightened zone: the part of it where the bound of a good cut holds, and the rest, each
+    /// tightened, or none where it is empty.
+    pub fn parts(&self, clocks: u32, cut: u32) -> [Option<Zone>; 2] {
+        let ([i, j], bound) = (clocks_of(cut), bound_of(cut));
+        [
+            self.part(clocks, i, j, bound),
+            self.part(clocks, j, i, opposite(bound)),
+        ]
+    }
+
+    /// Of a tightened zone: the part of it where one more bound holds. A chain of clocks that has
+    /// become shorter goes by way of that bound.
+    fn part(&self, clocks: u32, i: usize, j: usize, bound: Bound) -> Option<Zone> {
+        if self.is_empty() || sum(bound, self.0[j][i]) < AT_MOST_0 {
+            return None;
+        }
+        let size = clocks as usize + 1;
+        let mut part = *self;
+        for row in part.0.iter_mut().take(size) {
+            if row[i] == NONE {
+                continue;
+            }
+            let first = sum(row[i], bound);
+            for (bound, &second) in row.iter_mut().zip(&self.0[j]).take(size) {
+                *bound = sum(first, second).min(*bound);
+            }
+        }
+        Some(part)
+    }
+
     /// Of a tightened zone: the bounds above single clocks go.
     pub fn delay(&mut self) {
         for row in &mut self.0[1..] {
@@ -120,6 +148,27 @@ impl Zone {
         }
         true
     }
+}
+
+/// Whether the fields of a bound are in their ranges, diagonals allowed, whatever the word's kind.
+pub fn good_fields(word: u32, clocks: u32) -> bool {
+    let (i, j, shifted) = (word >> 24 & 15, word >> 20 & 15, word & 0x1FFF);
+    let spare = word & 0x0007_E000;
+    i != j && i <= clocks && j <= clocks && shifted != 0 && spare == 0
+}
+
+/// i and j of a bound.
+pub fn clocks_of(word: u32) -> [usize; 2] {
+    [(word >> 24 & 15) as usize, (word >> 20 & 15) as usize]
+}
+
+fn bound_of(word: u32) -> Bound {
+    2 * ((word & 0x1FFF) as i32 - 4096) + (1 - (word >> 19 & 1) as i32)
+}
+
+/// What holds, of the two clocks in the other order, where a bound does not.
+fn opposite(bound: Bound) -> Bound {
+    1 - bound
 }
 
 /// For each clock, the one whose reading it has once the masked clocks are set to 0 (bit 0 for
