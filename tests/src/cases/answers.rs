@@ -1,4 +1,4 @@
-//! Answers as the case files and the program write them, in document 01's numbers.
+//! Answers as the case files and the program write them, in the numbers of documents 01 and 02.
 
 use std::fmt;
 

@@ -63,13 +63,13 @@ impl Call {
         answer.unwrap_or_else(Answer::Refused)
     }
 
-    /// Whether an answer is one that document 01 has for this call.
+    /// Whether an answer is one that documents 01 and 02 have for this call.
     pub fn may_answer(&self, answer: &Answer) -> bool {
         let refusal = |number| match self {
             Call::ZoneEmpty(..) => (31..=32).contains(number),
             Call::ZoneInside(..) => (31..=33).contains(number),
             Call::ReadModel(_) => (1..=6).contains(number),
-            Call::Judge(..) => (1..=6).contains(number) || (11..=21).contains(number),
+            Call::Judge(..) => matches!(number, 1..=6 | 11..=21 | 51..=53),
         };
         match answer {
             Answer::Empty(_) => matches!(self, Call::ZoneEmpty(..)),

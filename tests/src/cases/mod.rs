@@ -1,5 +1,5 @@
 //! The cases that stand as text under `tests/cases`, a case a line: its name, the call with its words,
-//! and the answer of document 01.
+//! and the answer of documents 01 and 02.
 //!
 //! `lines` takes a text apart, `words` reads lists of words, `changes` the changes in one, `calls` the
 //! calls and `answers` what they answer; `files` puts the cases together. `run` asks the library, the
