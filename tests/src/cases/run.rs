@@ -13,8 +13,8 @@ use crate::spell;
 const LEAST: [(&str, &[&str], usize); 4] = [
     ("zone cases", &["zone_empty", "zone_inside"], 519),
     ("model cases", &["read_model"], 1627),
-    ("judge cases", &["judge"], 1624),
-    ("whole files", &["program"], 3132),
+    ("judge cases", &["judge"], 3107),
+    ("whole files", &["program"], 4582),
 ];
 
 /// What a run came to.
