@@ -16,10 +16,10 @@ use Rattle.model.specs.Model.{Edge, Action, Location, Model}
 use Rattle.model.specs.States.{locationAt}
 use Rattle.model.proofs.ZoneLaws.{All, more}
 use Rattle.table.specs.Fields.{numberOf}
-use Rattle.table.specs.Table.{Successor, Row, blockedRow, successorRow, Cut, Body, rowsBody, cutBody, Node, noNode, Table, nodeAt}
+use Rattle.table.specs.Table.{Successor, Row, blockedRow, successorRow, Body, rowsBody, cutBody, Node, noNode, Table, nodeAt}
 use Rattle.table.specs.Table.{successorsOf, rowsOf, cutOf, rowActions, bodyOf}
 use Rattle.table.specs.Scan.{rowSize}
-use Rattle.table.proofs.Shape.{RowStands, RowsStand, CutStands, BodyStands, NodeShaped, Shaped}
+use Rattle.table.proofs.Shape.{RowStands, RowsStand, BodyStands, NodeShaped, Shaped}
 use Rattle.acceptance.specs.Acceptance.{Pairwise, SumFits, SuccessorFits, RowFits, holdingPart, PartFits, BodyFits, HasWhole, NodeFits, Accepted}
 use Rattle.acceptance.specs.Judging.{successorChecks, rowChecks, rowsChecks, partChecks, cutChecks, bodyChecks, nodeChecks, nodesChecks}
 use Rattle.acceptance.specs.Judging.{startChecks, tableChecks}

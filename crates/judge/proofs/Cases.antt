@@ -95,7 +95,8 @@ unfolding
     scan.lastFault scan.firstRow scan.endRow scan.rowsAt scan.edgesAt scan.rowSize scan.sizeAt scan.seenWithKind scan.seenWith entryAt putEntry
     index.keptWithKind index.keptWith index.unlessFault index.scanFrom index.scanned index.numbersAnswer index.answerOf withLanding withLandings
     enabledSquare enabledBelow enabledKeys waitedSquare reachSquare successorFinding successorOutcome orElse successorsFrom rowsFrom
-    rowsFinding negated withWord holdingSquare restSquare partFinding cutFinding nodeFinding nodesFrom walked startVerdict verdictAnswer behindModel behindWords behindNodes judged judgedBehind judgedFrom computed
+    rowsFinding negated withWord holdingSquare restSquare partFinding cutFinding nodeFinding nodesFrom walked startVerdict verdictAnswer
+    behindModel behindWords behindNodes judged judgedBehind judgedFrom computed
 answers = (refl, refl, refl, refl, refl, refl, refl, refl, refl, refl, refl, refl, refl, refl, refl)
 
 -- what is computed is the answer

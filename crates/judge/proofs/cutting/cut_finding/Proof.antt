@@ -1,5 +1,4 @@
 -- Proof of `cut_finding`: what the part where the bound holds finds, and only where that is nothing, what the rest finds.
-use mathlib.Core.Path.{_≡_, _∙_}
 use mathlib.Core.List.{[], _∷_}
 use borrow.Author.Needs.{needs}
 use types.Run.{miss}

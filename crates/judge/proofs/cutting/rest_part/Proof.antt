@@ -1,6 +1,6 @@
 -- Proof of `rest_part`: the calls are those of the definition; a bound of a word is small enough to be negated, and the zone with the negated one
 -- can be tightened.
-use mathlib.Core.Path.{_∙_, refl, sym, subst, ap}
+use mathlib.Core.Path.{_∙_}
 use borrow.Author.Needs.{needs}
 use Rattle.judge.proofs.PartLaws.{bound-small, rest-fits, is-rest}
 use Rattle.judge.proofs.cutting.rest_part.Statement.{statement}
