@@ -89,7 +89,7 @@ impl Judge<'_> {
             let good = node.value == self.table.whole || self.flaw == Flaw::ForgetsTargetValues;
             return demand(good, 15, node.value_place);
         }
-        for (row, action) in node.rows.iter().zip(&location.actions) {
+        for (row, action) in node.rows().iter().zip(&location.actions) {
             let reach = self.reach(node, action);
             match row {
                 Row::Blocked { place } => {

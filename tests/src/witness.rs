@@ -71,7 +71,7 @@ fn row_quests<'a>(model: &'a Model, table: &'a Table) -> Vec<(usize, Quest<'a>)>
     let mut quests = Vec::new();
     for node in &table.nodes {
         for (row, action) in node
-            .rows
+            .rows()
             .iter()
             .zip(&model.locations[node.location].actions)
         {

@@ -1,10 +1,10 @@
 //! Judging a parsed table against a parsed model.
 //!
 //! Reads "Moves and schedulers" (which choices are allowed) and "When a table is accepted" of
-//! document 01: refusals 15 to 21.
+//! document 01: refusals 15 to 21; and what document 02, card 1, asks of a cut: refusals 51 to 53.
 
 use super::model::{Action, Location, Model};
-use super::table::{Node, NodeRef, Row, Table};
+use super::table::{Body, Cut, Node, NodeRef, Row, Table};
 use super::zones::Zone;
 use super::{Certificate, Refusal};
 
@@ -63,7 +63,7 @@ pub fn reach_of_row(model: &Model, table: &Table, node: usize, row: usize) -> Zo
     zones.reach(node.location, row, &delayed)
 }
 
-/// Accepts the table or gives its first refusal (15 to 21).
+/// Accepts the table or gives its first refusal (15 to 21, 51 to 53).
 pub fn judge_table(model: &Model, table: &Table) -> Result<Certificate, Refusal> {
     let node_zone = |node: &Node| Zone::of(model.clocks, &node.bounds);
     let judge = Judge {
@@ -72,8 +72,8 @@ pub fn judge_table(model: &Model, table: &Table) -> Result<Certificate, Refusal>
         zones: ModelZones::of(model),
         node_zones: table.nodes.iter().map(node_zone).collect(),
     };
-    for (node, zone) in table.nodes.iter().zip(&judge.node_zones) {
-        judge.node(node, zone)?;
+    for number in 0..table.nodes.len() {
+        judge.node(number)?;
     }
     judge.start()?;
     Ok(Certificate {
@@ -92,14 +92,23 @@ struct Judge<'a> {
 }
 
 impl Judge<'_> {
-    /// 15 at a target; 16 to 19 row by row elsewhere.
-    fn node(&self, node: &Node, zone: &Zone) -> Result<(), Refusal> {
-        let location = &self.model.locations[node.location];
-        if location.target {
+    /// 15 at a target; elsewhere the rows, or in place of them the cut.
+    fn node(&self, number: usize) -> Result<(), Refusal> {
+        let (node, zone) = (&self.table.nodes[number], &self.node_zones[number]);
+        if self.model.locations[node.location].target {
             return demand(node.value == self.table.whole, 15, node.value_place);
         }
+        match &node.body {
+            Body::Rows(rows) => self.rows(node, zone, rows),
+            Body::Cut(cut) => self.cut(number, cut),
+        }
+    }
+
+    /// 16 to 19 row by row.
+    fn rows(&self, node: &Node, zone: &Zone, rows: &[Row]) -> Result<(), Refusal> {
+        let actions = &self.model.locations[node.location].actions;
         let delayed = self.zones.delayed(node.location, zone);
-        for (number, (row, action)) in node.rows.iter().zip(&location.actions).enumerate() {
+        for (number, (row, action)) in rows.iter().zip(actions).enumerate() {
             let reach = self.zones.reach(node.location, number, &delayed);
             match row {
                 Row::Blocked { place } => demand(reach.is_empty(), 16, *place)?,
@@ -128,6 +137,23 @@ impl Judge<'_> {
         }
         let most = u64::from(self.model.denominator) * u64::from(node.value);
         demand(sum <= most, 19, successors[0].place)
+    }
+
+    /// Card 1: 51 to 53, part by part. The parts are those of the node's zone as it is written, not
+    /// met with the invariant. A number above the node's own keeps cuts from going round: a cut takes
+    /// no step.
+    fn cut(&self, number: usize, cut: &Cut) -> Result<(), Refusal> {
+        let (node, zone) = (&self.table.nodes[number], &self.node_zones[number]);
+        let bounds = [cut.bound, cut.bound.negated()];
+        for (named, bound) in cut.parts.iter().zip(bounds) {
+            let holder = &self.table.nodes[named.node];
+            demand(named.node > number, 51, named.place)?;
+            let fits = holder.location == node.location && holder.value <= node.value;
+            demand(fits, 52, named.place)?;
+            let part = zone.meet(&Zone::of(self.model.clocks, &[bound]));
+            demand(part.inside(&self.node_zones[named.node]), 53, named.place)?;
+        }
+        Ok(())
     }
 
     /// 20 and 21, at the C word.

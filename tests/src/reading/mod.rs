@@ -1,4 +1,5 @@
-//! An independent reading of document 01, the miss-chance judge.
+//! An independent reading of document 01, the miss-chance judge, and of document 02, card 1, which
+//! lets a table cut a node in two.
 //!
 //! This file holds what the calls of "The four calls and their refusals" answer, and the two that
 //! read whole files. Words are parsed into a tree (`words`, `cursor`, `model`, `table`), and the
@@ -17,7 +18,7 @@ pub use judging::{judge_table, reach_of_row};
 pub use model::{parse_model, Action, Edge, Location, Model, Start};
 pub use program::program;
 pub use questions::{zone_empty, zone_inside};
-pub use table::{parse_table, Node, NodeRef, Row, Table};
+pub use table::{parse_table, Body, Cut, Node, NodeRef, Row, Table};
 pub use words::Bound;
 pub use zones::Zone;
 

@@ -1,10 +1,10 @@
 //! The table as a tree, and the parser that builds it.
 //!
 //! Reads "Words" (what may follow what in a table) and the table's syntax in "The four calls and
-//! their refusals" of document 01: refusals 11 to 14.
+//! their refusals" of document 01: refusals 11 to 14. Cuts are those of document 02, card 1.
 
 use super::cursor::Cursor;
-use super::model::{Action, Model};
+use super::model::{Action, Location, Model};
 use super::words::{self, Bound};
 use super::Refusal;
 
@@ -25,8 +25,25 @@ pub struct Node {
     pub value: u32,
     /// Index of the value word in the table.
     pub value_place: usize,
+    pub body: Body,
+}
+
+/// What stands behind a node's value.
+#[derive(Clone, Debug, PartialEq, Eq)]
+pub enum Body {
     /// One per action of the location, in order; none at a target.
-    pub rows: Vec<Row>,
+    Rows(Vec<Row>),
+    /// In place of the rows, at a location that is no target.
+    Cut(Cut),
+}
+
+/// A node's zone in two parts.
+#[derive(Clone, Copy, Debug, PartialEq, Eq)]
+pub struct Cut {
+    /// An upper bound of one clock.
+    pub bound: Bound,
+    /// The node for the part where the bound holds, then the one for the rest.
+    pub parts: [NodeRef; 2],
 }
 
 #[derive(Clone, Debug, PartialEq, Eq)]
@@ -42,6 +59,30 @@ pub enum Row {
 pub struct NodeRef {
     pub node: usize,
     pub place: usize,
+}
+
+impl Node {
+    /// The rows in order; none if the node is cut.
+    pub fn rows(&self) -> &[Row] {
+        match &self.body {
+            Body::Rows(rows) => rows,
+            Body::Cut(_) => &[],
+        }
+    }
+
+    /// The cut, if the node has one.
+    pub fn cut(&self) -> Option<&Cut> {
+        match &self.body {
+            Body::Rows(_) => None,
+            Body::Cut(cut) => Some(cut),
+        }
+    }
+
+    /// What the node's B words name, in file order.
+    fn named(&self) -> impl Iterator<Item = &NodeRef> {
+        let in_rows = self.rows().iter().flat_map(Row::successors);
+        in_rows.chain(self.cut().into_iter().flat_map(|cut| &cut.parts))
+    }
 }
 
 impl Row {
@@ -78,10 +119,10 @@ pub fn parse_table(model: &Model, words: &[u32]) -> Result<Table, Refusal> {
     Ok(table)
 }
 
-/// 14, asked of the whole file since a row may name a node that comes later.
+/// 14, asked of the whole file since a row or a cut may name a node that comes later.
 fn check_node_numbers(table: &Table) -> Result<(), Refusal> {
-    let rows = table.nodes.iter().flat_map(|node| &node.rows);
-    let mut named = rows.flat_map(Row::successors).chain([&table.start]);
+    let in_nodes = table.nodes.iter().flat_map(Node::named);
+    let mut named = in_nodes.chain([&table.start]);
     match named.find(|named| named.node >= table.nodes.len()) {
         Some(lost) => Err(Refusal {
             number: 14,
@@ -99,7 +140,7 @@ struct Parser<'a> {
 }
 
 impl Parser<'_> {
-    /// A node word, its bounds, its value and its rows.
+    /// A node word, its bounds, its value and its body.
     fn node(&mut self, number: usize) -> Result<Node, Refusal> {
         let (model, whole) = (self.model, self.whole);
         let read = |word| words::node(word).filter(|&location| location < model.locations.len());
@@ -112,21 +153,39 @@ impl Parser<'_> {
             .take_bounds(|word| words::bound(word, model.clocks))?;
         let read = |word| words::value(word, whole);
         let (value, value_place) = self.cursor.take(words::VALUE, read)?;
-        let at = &model.locations[location];
-        let rows = if at.target {
-            Vec::new()
-        } else {
-            at.actions
-                .iter()
-                .map(|action| self.row(action))
-                .collect::<Result<_, _>>()?
-        };
+        let body = self.body(&model.locations[location])?;
         Ok(Node {
             location,
             bounds,
             value,
             value_place,
-            rows,
+            body,
+        })
+    }
+
+    /// Nothing at a target; elsewhere a cut, or one row per action, none if there are no actions.
+    fn body(&mut self, at: &Location) -> Result<Body, Refusal> {
+        if at.target {
+            return Ok(Body::Rows(Vec::new()));
+        }
+        if self.cursor.is_at(words::CUT) {
+            return Ok(Body::Cut(self.cut()?));
+        }
+        let rows = at.actions.iter().map(|action| self.row(action));
+        Ok(Body::Rows(rows.collect::<Result<_, _>>()?))
+    }
+
+    /// One D and two B.
+    fn cut(&mut self) -> Result<Cut, Refusal> {
+        let clocks = self.model.clocks;
+        let (bound, _) = self
+            .cursor
+            .take(words::CUT, |word| words::cut(word, clocks))?;
+        let first = self.node_ref(words::SUCCESSOR)?;
+        let second = self.node_ref(words::SUCCESSOR)?;
+        Ok(Cut {
+            bound,
+            parts: [first, second],
         })
     }
 

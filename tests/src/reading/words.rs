@@ -1,7 +1,7 @@
 //! Single words: kinds, fields, ranges and spare bits.
 //!
-//! Reads the section "Words" of document 01, apart from what may follow what. Each reading function
-//! is given a word whose kind is already known to be right. It hands back the fields, or nothing if
+//! Reads the section "Words" of document 01, apart from what may follow what, and the D word of
+//! document 02, card 1. Each reading function is given a word whose kind is already known to be right. It hands back the fields, or nothing if
 //! one is outside its range or a spare bit is set. What needs the rest of the file (does this
 //! location exist, is this weight's sum right) is left to the parsers.
 
@@ -17,6 +17,7 @@ pub const VALUE: u32 = 0x9;
 pub const BLOCKED: u32 = 0xA;
 pub const SUCCESSOR: u32 = 0xB;
 pub const START_NODE: u32 = 0xC;
+pub const CUT: u32 = 0xD;
 
 pub const MAX_CLOCKS: usize = 4;
 
@@ -34,6 +35,17 @@ impl Bound {
     /// True for the bounds that locations and actions may have: exactly one clock is clock 0.
     pub fn is_on_one_clock(&self) -> bool {
         (self.i == 0) != (self.j == 0)
+    }
+
+    /// The bound that holds exactly where this one does not: not at most `d` is above `d`, not below
+    /// `d` is at least `d`.
+    pub fn negated(&self) -> Bound {
+        Bound {
+            i: self.j,
+            j: self.i,
+            d: -self.d,
+            strict: !self.strict,
+        }
     }
 }
 
@@ -92,6 +104,11 @@ pub fn bound(word: u32, clocks: usize) -> Option<Bound> {
         d: shifted as i32 - 4096,
         strict: bits(word, 19, 19) == 1,
     })
+}
+
+/// The bound of a cut: the fields of a bound word, j always 0, so that i is 1 to C.
+pub fn cut(word: u32, clocks: usize) -> Option<Bound> {
+    bound(word, clocks).filter(|bound| bound.j == 0)
 }
 
 /// The start's location.
@@ -160,6 +177,46 @@ mod tests {
         }
         for bit in 13..=18 {
             assert_eq!(bound(0x51001000 | 1 << bit, 1), None);
+        }
+    }
+
+    #[test]
+    fn cut_fields() {
+        let lowest = Bound {
+            i: 4,
+            j: 0,
+            d: -4095,
+            strict: true,
+        };
+        assert_eq!(cut(0xD4080001, 4), Some(lowest));
+        let highest = Bound {
+            i: 1,
+            j: 0,
+            d: 4095,
+            strict: false,
+        };
+        assert_eq!(cut(0xD1001FFF, 1), Some(highest));
+        // Clock 0, a clock above C, d + 4,096 = 0, j not 0: with i = 0, with another i, with the same.
+        for bad in [
+            0xD0001000, 0xD3001000, 0xD1000000, 0xD0101000, 0xD1201000, 0xD2101000, 0xD1101000,
+        ] {
+            assert_eq!(cut(bad, 2), None, "{bad:08X}");
+        }
+        for bit in 13..=18 {
+            assert_eq!(cut(0xD1001000 | 1 << bit, 2), None);
+        }
+    }
+
+    #[test]
+    fn a_negated_bound() {
+        let at_most_3 = bound(0x51001003, 1).unwrap();
+        let above_3 = bound(0x50180FFD, 1).unwrap();
+        let below_minus_2 = bound(0x51080FFE, 1).unwrap();
+        let at_least_minus_2 = bound(0x50101002, 1).unwrap();
+        assert_eq!(at_most_3.negated(), above_3);
+        assert_eq!(below_minus_2.negated(), at_least_minus_2);
+        for bound in [at_most_3, above_3, below_minus_2, at_least_minus_2] {
+            assert_eq!(bound.negated().negated(), bound);
         }
     }
 

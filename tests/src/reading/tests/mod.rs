@@ -1,6 +1,7 @@
 //! Tests of the reading, by subject. `worked` has every case of "Timeline M and table T" of
 //! document 01.
 
+mod cuts;
 mod judging;
 mod model;
 mod program;
@@ -69,7 +70,11 @@ fn any_words_get_an_answer() {
     let mut dice = Dice(1);
     for _ in 0..200_000 {
         let mut model = M.to_vec();
-        let mut table = T.to_vec();
+        let mut table = if dice.below(2) == 0 {
+            T.to_vec()
+        } else {
+            cuts::K.to_vec()
+        };
         for _ in 0..=dice.below(3) {
             let words = if dice.below(2) == 0 {
                 &mut model
@@ -92,7 +97,9 @@ fn any_words_get_an_answer() {
             }
             Err(refusal) => {
                 assert!(read.is_ok() && refusal.place <= table.len());
-                assert!((11..=21).contains(&refusal.number));
+                assert!((11..=21)
+                    .chain(51..=53)
+                    .any(|number| number == refusal.number));
             }
         }
     }

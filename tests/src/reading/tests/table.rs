@@ -1,7 +1,7 @@
 //! Refusals 11 to 14: the table's syntax.
 
 use super::*;
-use crate::reading::{parse_model, parse_table, NodeRef, Row};
+use crate::reading::{parse_model, parse_table, Body, NodeRef, Row};
 
 /// One location with no action, which is no target, and a start there.
 const BARE: [u32; 3] = [0x1110000A, 0x20000000, 0x60000000];
@@ -13,7 +13,7 @@ fn the_model_goes_first() {
 }
 
 #[test]
-fn every_cut_lacks_a_word() {
+fn every_beginning_lacks_a_word() {
     for length in 0..T.len() {
         assert_eq!(judge(&M, &T[..length]), refused(11, length));
     }
@@ -27,11 +27,11 @@ fn what_may_follow_what() {
         &[8],
         &[5, 9],
         &[5, 9],
-        &[0xA, 0xB],
+        &[0xA, 0xB, 0xD],
         &[0xB],
         &[8, 0xC],
         &[5, 9],
-        &[8, 0xC],
+        &[8, 0xC, 0xD],
         &[5, 9],
         &[8, 0xC],
         &[],
@@ -170,6 +170,7 @@ fn the_tree() {
     assert_eq!((node.location, node.bounds.len()), (0, 1));
     assert_eq!((node.value, node.value_place), (1, 3));
     let successors = vec![NodeRef { node: 1, place: 4 }, NodeRef { node: 2, place: 5 }];
-    assert_eq!(node.rows, [Row::Successors(successors)]);
-    assert!(table.nodes[1].rows.is_empty() && table.nodes[2].rows.is_empty());
+    assert_eq!(node.body, Body::Rows(vec![Row::Successors(successors)]));
+    let none = Body::Rows(Vec::new());
+    assert!(table.nodes[1].body == none && table.nodes[2].body == none);
 }

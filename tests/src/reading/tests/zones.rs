@@ -122,7 +122,7 @@ const SCALE: i32 = 6;
 /// Bounds in these tests are between -3 and 3, so whatever happens, happens below 7.
 const TOP: i32 = 7 * SCALE;
 
-fn holds(bounds: &[Bound], x: i32, y: i32) -> bool {
+pub fn holds(bounds: &[Bound], x: i32, y: i32) -> bool {
     let clocks = [0, x, y];
     bounds.iter().all(|bound| {
         let difference = clocks[bound.i] - clocks[bound.j];
@@ -131,12 +131,12 @@ fn holds(bounds: &[Bound], x: i32, y: i32) -> bool {
     })
 }
 
-fn points(bounds: &[Bound]) -> Vec<(i32, i32)> {
+pub fn points(bounds: &[Bound]) -> Vec<(i32, i32)> {
     let all = (0..=TOP).flat_map(|x| (0..=TOP).map(move |y| (x, y)));
     all.filter(|&(x, y)| holds(bounds, x, y)).collect()
 }
 
-fn some_bounds(dice: &mut Dice) -> Vec<Bound> {
+pub fn some_bounds(dice: &mut Dice) -> Vec<Bound> {
     let pairs = [(0, 1), (1, 0), (0, 2), (2, 0), (1, 2), (2, 1)];
     let some = 1 + dice.below(5);
     let mut bound = |_| {
