@@ -6,7 +6,7 @@ use crate::comparer::{written, Fault};
 use crate::player::{grid_of, node_claims, object, start_claim, Claim, Player};
 use crate::points::{all_hold, largest, largest_of_model, Grid};
 use crate::reading::words::bound;
-use crate::reading::{parse_model, parse_table, Bound, Certificate, Model, Refusal, Table};
+use crate::reading::{parse_model, parse_table, Bound, Certificate, Model, Node, Refusal, Table};
 use crate::witness::{all_quests, quest_of, Quest, Witness};
 
 /// How many valuations, or valuations and delays, may be tried for one question at one scale. Where
@@ -28,9 +28,12 @@ pub struct Evidence {
     pub plays: usize,
     /// Claims of nodes and starts that the plays upheld.
     pub claims: usize,
+    /// Of the tables played at all scales, those with a cut; of the claims, those of cut nodes.
+    pub played_with_cut: usize,
+    pub claims_of_cut: usize,
     /// Played tables for which a value of the start node lower by one is refuted.
     pub tight: usize,
-    /// Rows and starts of accepted tables in which no witness was found, as it should be.
+    /// Rows, parts and starts of accepted tables in which no witness was found, as it should be.
     pub fruitless: usize,
     pub fruitless_left_out: usize,
     /// By refusal: witnesses found.
@@ -44,7 +47,7 @@ pub struct Evidence {
 }
 
 impl Evidence {
-    /// A refusal 16, 18 or 21 must have a witness.
+    /// A refusal 16, 18, 21 or 53 must have a witness.
     pub fn of_refusal(
         &mut self,
         model: &[u32],
@@ -52,7 +55,7 @@ impl Evidence {
         refusal: &Refusal,
     ) -> Result<(), Fault> {
         let number = refusal.number;
-        if ![16, 18, 21].contains(&number) {
+        if ![16, 18, 21, 53].contains(&number) {
             return Ok(());
         }
         let fault = |what: &str| {
@@ -63,7 +66,7 @@ impl Evidence {
             return Err(fault("the words do not parse"));
         };
         let Some(quest) = quest_of(&model, &table, refusal) else {
-            return Err(fault("no row lies there"));
+            return Err(fault("no row or part lies there"));
         };
         if quest.cost(&model, quest.enough(&model)) > MOST_FOR_WITNESS {
             *self.witnesses_left_out.entry(number).or_default() += 1;
@@ -80,7 +83,7 @@ impl Evidence {
         Ok(())
     }
 
-    /// An accepted table must stand against every scheduler, and no row or start of it may have a
+    /// An accepted table must stand against every scheduler, and no row, part or start of it may have a
     /// witness.
     pub fn of_acceptance(
         &mut self,
@@ -121,11 +124,14 @@ impl Evidence {
             }
             tight |= refutes_lower(&mut player, model, certificate);
         }
+        let cuts = table.nodes.iter().filter_map(Node::cut).count();
         self.claims += claims.len() * scales.len();
+        self.claims_of_cut += cuts * scales.len();
         self.plays += scales.len();
         self.tight += usize::from(tight);
         if scales.len() == SCALES.count() {
             self.played += 1;
+            self.played_with_cut += usize::from(cuts > 0);
         } else {
             self.played_in_part += 1;
         }

@@ -68,7 +68,7 @@ impl<'a> Run<'a> {
         }
     }
 
-    /// Document 01's own cases and everything drawn; stops at the first fault.
+    /// The worked cases and everything drawn; stops at the first fault.
     pub fn all(&mut self, work: &Work) -> Result<(), Fault> {
         self.worked_cases()?;
         self.drawn(work)
@@ -96,11 +96,11 @@ impl<'a> Run<'a> {
         self.program_runs(work.programs)
     }
 
-    /// Document 01's own cases.
+    /// Document 01's own cases, and those of card 1.
     fn worked_cases(&mut self) -> Result<(), Fault> {
         worked::check(self.comparer.under_test)?;
         worked::check(self.comparer.plain)?;
-        for case in worked::cases() {
+        for case in worked::cases().into_iter().chain(worked::cuts()) {
             self.model(&case.model)?;
             self.played_pair(&case.model, &case.table)?;
         }

@@ -128,7 +128,8 @@ pub fn start_claim(model: &Model, certificate: &Certificate) -> Claim {
     }
 }
 
-/// What an accepted table claims of each node: its value, for the states in its zone.
+/// What an accepted table claims of each node: its value, for the states in its zone. A cut takes no
+/// step, so a cut node claims what any other does.
 pub fn node_claims(model: &Model, table: &Table) -> Vec<Claim> {
     let claim = |node: &Node| Claim {
         location: node.location,

@@ -1,9 +1,11 @@
-//! Concrete witnesses for refusals 16, 18 and 21: a state, and for the first two a delay, at some
-//! scale, found by trying them one after the other (see `points` for how far and at which scales).
+//! Concrete witnesses for refusals 16, 18, 21 and 53: a valuation, and for the first two a delay, at
+//! some scale, found by trying them one after the other (see `points` for how far and at which scales).
 
 use std::ops::RangeInclusive;
 
-use crate::points::{after_delay, after_reset, all_hold, enabled, largest, largest_of_model};
+use crate::points::{
+    after_delay, after_reset, all_hold, enabled, holds, largest, largest_of_model,
+};
 use crate::points::{Grid, Valuation};
 use crate::reading::{Action, Bound, Edge, Model, Node, Refusal, Row, Table};
 
@@ -16,6 +18,14 @@ pub enum Quest<'a> {
         action: &'a Action,
         landing: Option<(u32, &'a [Bound])>,
     },
+    /// 53: a valuation of the node's zone, with the cut's bound holding there or not, outside the
+    /// zone of the node for that part.
+    Part {
+        node: &'a Node,
+        bound: Bound,
+        held: bool,
+        zone: &'a [Bound],
+    },
     /// 21: a start valuation outside the start node's zone.
     Start { zone: &'a [Bound] },
 }
@@ -24,7 +34,7 @@ pub enum Quest<'a> {
 pub struct Witness {
     pub scale: i64,
     pub clocks: Valuation,
-    /// 0 for a start valuation.
+    /// 0 for a start valuation and for one of a part.
     pub delay: i64,
 }
 
@@ -35,13 +45,17 @@ impl Quest<'_> {
     }
 }
 
-/// The quest that belongs to a refusal; none for other numbers, or where a refusal names the wrong kind of row.
+/// The quest that belongs to a refusal; none for other numbers, or where a refusal names the wrong kind
+/// of row, or no part.
 pub fn quest_of<'a>(model: &'a Model, table: &'a Table, refusal: &Refusal) -> Option<Quest<'a>> {
     match refusal.number {
         16 | 18 => row_quests(model, table).into_iter().find(|(place, quest)| {
             *place == refusal.place && quest.blocked() == (refusal.number == 16)
         }),
         21 => Some(start_quest(table)),
+        53 => part_quests(table)
+            .into_iter()
+            .find(|(place, _)| *place == refusal.place),
         _ => None,
     }
     .map(|(_, quest)| quest)
@@ -51,6 +65,7 @@ pub fn quest_of<'a>(model: &'a Model, table: &'a Table, refusal: &Refusal) -> Op
 pub fn all_quests<'a>(model: &'a Model, table: &'a Table) -> Vec<Quest<'a>> {
     let rows = row_quests(model, table);
     rows.into_iter()
+        .chain(part_quests(table))
         .chain([start_quest(table)])
         .map(|(_, quest)| quest)
         .collect()
@@ -66,7 +81,26 @@ fn start_quest(table: &Table) -> (usize, Quest<'_>) {
     )
 }
 
-/// One for each A and B word, with its place.
+/// One for each B word of a cut, with its place.
+fn part_quests(table: &Table) -> Vec<(usize, Quest<'_>)> {
+    let of_node = |node| Node::cut(node).map(|cut| (node, cut));
+    let cuts = table.nodes.iter().filter_map(of_node);
+    let parts = cuts.flat_map(|(node, cut)| {
+        let sides = cut.parts.iter().zip([true, false]);
+        sides.map(move |(named, held)| {
+            let quest = Quest::Part {
+                node,
+                bound: cut.bound,
+                held,
+                zone: &table.nodes[named.node].bounds,
+            };
+            (named.place, quest)
+        })
+    });
+    parts.collect()
+}
+
+/// One for each A and B word of a row, with its place.
 fn row_quests<'a>(model: &'a Model, table: &'a Table) -> Vec<(usize, Quest<'a>)> {
     let mut quests = Vec::new();
     for node in &table.nodes {
@@ -109,7 +143,7 @@ impl Quest<'_> {
     pub fn enough(&self, model: &Model) -> i64 {
         match self {
             Quest::Row { .. } => model.clocks as i64 + 2,
-            Quest::Start { .. } => model.clocks as i64 + 1,
+            Quest::Part { .. } | Quest::Start { .. } => model.clocks as i64 + 1,
         }
     }
 
@@ -118,6 +152,7 @@ impl Quest<'_> {
         let constant = self.largest(model);
         let (bounds, delays) = match self {
             Quest::Row { node, .. } => (state_bounds(model, node), scale * constant + 2),
+            Quest::Part { node, .. } => (node.bounds.clone(), 1),
             Quest::Start { .. } => (start_bounds(model), 1),
         };
         let grid = Grid::new(model.clocks, scale, constant);
@@ -136,6 +171,9 @@ impl Quest<'_> {
                 landing: Some((_, zone)),
                 ..
             } => largest(node.bounds.iter().chain(*zone)),
+            Quest::Part {
+                node, bound, zone, ..
+            } => largest(node.bounds.iter().chain([bound]).chain(*zone)),
             Quest::Start { zone } => largest(model.start.bounds.iter().chain(*zone)),
         };
         own.max(largest_of_model(model))
@@ -145,15 +183,27 @@ impl Quest<'_> {
     pub fn search(&self, model: &Model, scale: i64) -> Option<Witness> {
         let constant = self.largest(model);
         let grid = Grid::new(model.clocks, scale, constant);
+        let at_rest = |clocks| Witness {
+            scale,
+            clocks,
+            delay: 0,
+        };
         match self {
             Quest::Start { zone } => {
                 let bounds = start_bounds(model);
                 let found = grid.find(&bounds, &mut |clocks| !all_hold(zone, scale, clocks));
-                found.map(|clocks| Witness {
-                    scale,
-                    clocks,
-                    delay: 0,
-                })
+                found.map(at_rest)
+            }
+            Quest::Part {
+                node,
+                bound,
+                held,
+                zone,
+            } => {
+                let found = grid.find(&node.bounds, &mut |clocks| {
+                    holds(bound, scale, clocks) == *held && !all_hold(zone, scale, clocks)
+                });
+                found.map(at_rest)
             }
             Quest::Row {
                 node,
@@ -180,7 +230,7 @@ impl Quest<'_> {
         }
     }
 
-    /// Evaluates everything that the witness must meet once more, straight from document 01.
+    /// Evaluates everything that the witness must meet once more, straight from documents 01 and 02.
     pub fn recheck(&self, model: &Model, witness: &Witness) -> bool {
         let met = |bounds: &[Bound], clocks: &Valuation| met(bounds, witness.scale, clocks);
         let clocks = &witness.clocks;
@@ -189,6 +239,12 @@ impl Quest<'_> {
                 let invariant = &model.locations[model.start.location].invariant;
                 met(&model.start.bounds, clocks) && met(invariant, clocks) && !met(zone, clocks)
             }
+            Quest::Part {
+                node,
+                bound,
+                held,
+                zone,
+            } => met(&node.bounds, clocks) && met(&[*bound], clocks) == *held && !met(zone, clocks),
             Quest::Row {
                 node,
                 action,

@@ -1,4 +1,5 @@
-//! The cases of "Timeline M and table T" of document 01, with the answers written there.
+//! The cases of "Timeline M and table T" of document 01, with the answers written there; and cases of
+//! document 02, card 1, for the same timeline, with the answers worked out from the card by hand.
 
 use crate::comparer::Fault;
 use crate::sides::Side;
@@ -12,6 +13,14 @@ pub const MODEL: [u32; 11] = [
 pub const TABLE: [u32; 11] = [
     0x7000000A, 0x80000000, 0x51001000, 0x90000001, 0xB0000001, 0xB0000002, 0x81000000, 0x90000000,
     0x82000000, 0x9000000A, 0xC0000000,
+];
+
+/// A table for the same model in which node 0 (at most 3) is cut at 1: node 3 has the part up to 1,
+/// node 4 what is above.
+pub const CUT_TABLE: [u32; 22] = [
+    0x7000000A, 0x80000000, 0x51001003, 0x90000001, 0xD1001001, 0xB0000003, 0xB0000004, 0x81000000,
+    0x90000000, 0x82000000, 0x9000000A, 0x80000000, 0x51001001, 0x90000001, 0xB0000001, 0xB0000002,
+    0x80000000, 0x50180FFF, 0x90000001, 0xB0000001, 0xB0000002, 0xC0000000,
 ];
 
 /// A case of judging.
@@ -50,9 +59,44 @@ pub fn cases() -> Vec<Case> {
     ]
 }
 
-/// Asks one side for the answers that document 01 writes down.
+/// Cases of card 1, each one word or a few away from the table with a cut.
+pub fn cuts() -> Vec<Case> {
+    let cut = |table: &[u32], line| Case {
+        model: MODEL.to_vec(),
+        table: table.to_vec(),
+        line,
+    };
+    let with = |place, word| with(&CUT_TABLE, place, word);
+    let twice = |place, word| [&CUT_TABLE[..place], &[word], &CUT_TABLE[place..]].concat();
+    vec![
+        cut(&CUT_TABLE, "ACCEPTED 1 10 5"),
+        // The fraction is the cut node's own.
+        cut(&with(3, 0x90000004), "ACCEPTED 4 10 5"),
+        // Clock 0, clock 2 of 1, a second clock.
+        cut(&with(4, 0xD0001001), "REFUSED 12 4"),
+        cut(&with(4, 0xD2001001), "REFUSED 12 4"),
+        cut(&with(4, 0xD1101001), "REFUSED 12 4"),
+        // A third B, a cut at the target.
+        cut(&twice(7, 0xB0000004), "REFUSED 11 7"),
+        cut(&twice(11, 0xD1001001), "REFUSED 11 11"),
+        // Not there, its own number, another location, a larger value.
+        cut(&with(6, 0xB0000005), "REFUSED 14 6"),
+        cut(&with(5, 0xB0000000), "REFUSED 51 5"),
+        cut(&with(6, 0xB0000001), "REFUSED 52 6"),
+        cut(&with(18, 0x90000002), "REFUSED 52 6"),
+        // Below 1 is not all up to 1, from 2 on is not all above 1, nor does above 1 hold 1.
+        cut(&with(12, 0x51081001), "REFUSED 53 5"),
+        cut(&with(17, 0x50100FFE), "REFUSED 53 6"),
+        cut(&with(4, 0xD1081001), "REFUSED 53 6"),
+        // Nothing is below 0, all is at most 4.
+        cut(&with(4, 0xD1081000), "REFUSED 53 6"),
+        cut(&with(4, 0xD1001004), "REFUSED 53 5"),
+    ]
+}
+
+/// Asks one side for the answers that document 01 writes down, and for those of card 1.
 pub fn check(side: &dyn Side) -> Result<(), Fault> {
-    for case in cases() {
+    for case in cases().into_iter().chain(cuts()) {
         let words = [&case.model[..], &case.table].concat();
         let judged = match side.judge(&case.model, &case.table) {
             Ok(accepted) => format!(
@@ -91,6 +135,6 @@ fn expect(input: &str, wanted: &str, answered: &str) -> Result<(), Fault> {
         return Ok(());
     }
     Err(Fault(format!(
-        "worked case {input}\ndocument 01: {wanted:?}\nanswered:    {answered:?}"
+        "worked case {input}\ndue:      {wanted:?}\nanswered: {answered:?}"
     )))
 }
