@@ -3,7 +3,7 @@
 use std::collections::BTreeMap;
 use std::fmt::{self, Debug};
 
-use crate::reading::{Certificate, Counts, Refusal};
+use crate::reading::{words, Certificate, Counts, Refusal};
 use crate::sides::{Plain, Reading, Side};
 use crate::spell;
 
@@ -42,6 +42,8 @@ impl Answer {
 pub struct Tally {
     /// By call and answer.
     pub answers: BTreeMap<(&'static str, Answer), usize>,
+    /// Judged tables that were accepted and have a cut.
+    pub accepted_with_cut: usize,
     /// By side: answers that were the reading's.
     pub agreed: BTreeMap<&'static str, usize>,
 }
@@ -98,7 +100,11 @@ impl<'a> Comparer<'a> {
     pub fn judge(&mut self, model: &[u32], table: &[u32]) -> Same<Certificate> {
         let ask = |side: &dyn Side| side.judge(model, table);
         let input = [("model", model), ("table", table)];
-        self.call("judge", ask, &input, |_| Answer::Accepted)
+        let judged = self.call("judge", ask, &input, |_| Answer::Accepted)?;
+        // In a table that is accepted, only a cut has a word of this kind.
+        let has_cut = table.iter().any(|&word| words::kind(word) == words::CUT);
+        self.tally.accepted_with_cut += usize::from(judged.is_ok() && has_cut);
+        Ok(judged)
     }
 
     pub fn read_model(&mut self, model: &[u32]) -> Same<Counts> {

@@ -18,8 +18,63 @@ pub struct DraftNode {
     pub location: usize,
     pub bounds: Vec<Bound>,
     pub value: u32,
+    pub body: DraftBody,
+}
+
+#[derive(Clone, Debug)]
+pub enum DraftBody {
     /// One per action: the successors, or none for a blocked row.
-    pub rows: Vec<Vec<usize>>,
+    Rows(Vec<Vec<usize>>),
+    /// The bound, the node for the part where it holds, the node for the rest.
+    Cut(Bound, [usize; 2]),
+}
+
+impl DraftNode {
+    /// The rows; none if the node is cut.
+    pub fn rows(&self) -> &[Vec<usize>] {
+        match &self.body {
+            DraftBody::Rows(rows) => rows,
+            DraftBody::Cut(..) => &[],
+        }
+    }
+
+    pub fn rows_mut(&mut self) -> &mut [Vec<usize>] {
+        match &mut self.body {
+            DraftBody::Rows(rows) => rows,
+            DraftBody::Cut(..) => &mut [],
+        }
+    }
+
+    pub fn is_cut(&self) -> bool {
+        matches!(self.body, DraftBody::Cut(..))
+    }
+
+    /// Every node number in the rows or in the cut.
+    pub fn named_mut(&mut self) -> Vec<&mut usize> {
+        match &mut self.body {
+            DraftBody::Rows(rows) => rows.iter_mut().flatten().collect(),
+            DraftBody::Cut(_, parts) => parts.iter_mut().collect(),
+        }
+    }
+
+    fn body_words(&self) -> Vec<u32> {
+        let mut words = Vec::new();
+        match &self.body {
+            DraftBody::Rows(rows) => {
+                for row in rows {
+                    if row.is_empty() {
+                        words.push(spell::BLOCKED);
+                    }
+                    words.extend(row.iter().map(|&node| spell::successor(node)));
+                }
+            }
+            DraftBody::Cut(bound, parts) => {
+                words.push(spell::cut(bound));
+                words.extend(parts.map(spell::successor));
+            }
+        }
+        words
+    }
 }
 
 impl Draft {
@@ -29,12 +84,7 @@ impl Draft {
             words.push(spell::node(node.location));
             words.extend(spell::bounds(&node.bounds));
             words.push(spell::value(node.value));
-            for row in &node.rows {
-                if row.is_empty() {
-                    words.push(spell::BLOCKED);
-                }
-                words.extend(row.iter().map(|&node| spell::successor(node)));
-            }
+            words.extend(node.body_words());
         }
         words.push(spell::start_node(self.start));
         words
@@ -66,17 +116,24 @@ impl Draft {
         raised
     }
 
-    /// The least value that the node's rows allow, given its successors' values.
+    /// The least value that the node's rows or parts allow, given the values of the nodes that they name.
     fn needed_value(&self, model: &Model, number: usize) -> u32 {
         let node = &self.nodes[number];
         let location = &model.locations[node.location];
         if location.target {
             return self.whole;
         }
-        let rows = location.actions.iter().zip(&node.rows);
-        rows.map(|(action, row)| self.row_value(model, action, row))
-            .max()
-            .unwrap_or(0)
+        match &node.body {
+            DraftBody::Rows(rows) => {
+                let rows = location.actions.iter().zip(rows);
+                rows.map(|(action, row)| self.row_value(model, action, row))
+                    .max()
+                    .unwrap_or(0)
+            }
+            DraftBody::Cut(_, [first, rest]) => {
+                self.nodes[*first].value.max(self.nodes[*rest].value)
+            }
+        }
     }
 
     /// The row's sum divided by D, rounded up.

@@ -1,15 +1,16 @@
 //! Tables near an explored one: looser, tighter, or with a row or node number changed.
 
+use crate::cuts::cut_some;
 use crate::drafts::{Draft, DraftNode};
 use crate::explore::hull;
 use crate::models::diagonal;
 use crate::random::Random;
 use crate::reading::{Bound, Model};
 
-/// Bounds up, not strict, or dropped; values up; a zone merged with another.
+/// Bounds up, not strict, or dropped; values up; a zone merged with another; nodes cut.
 pub fn loosen(random: &mut Random, model: &Model, draft: &mut Draft) {
     let number = random.below(draft.nodes.len());
-    match random.below(6) {
+    match random.below(7) {
         0 => change_bound(random, &mut draft.nodes[number], |bound| bound.d += 1),
         1 => change_bound(random, &mut draft.nodes[number], |bound| {
             bound.strict = false
@@ -17,6 +18,7 @@ pub fn loosen(random: &mut Random, model: &Model, draft: &mut Draft) {
         2 => drop_bound(random, &mut draft.nodes[number]),
         3 => draft.nodes[number].value = (draft.nodes[number].value + 1).min(draft.whole),
         4 => merge(random, draft, number),
+        5 => cut_some(random, model, draft),
         _ => draft.nodes[number].bounds.clear(),
     }
     if random.one_in(2) {
@@ -56,7 +58,7 @@ pub fn reroute(random: &mut Random, model: &Model, draft: &mut Draft) {
     }
 }
 
-fn change_bound(random: &mut Random, node: &mut DraftNode, change: impl Fn(&mut Bound)) {
+pub fn change_bound(random: &mut Random, node: &mut DraftNode, change: impl Fn(&mut Bound)) {
     if node.bounds.is_empty() {
         return;
     }
@@ -65,7 +67,7 @@ fn change_bound(random: &mut Random, node: &mut DraftNode, change: impl Fn(&mut 
     node.bounds[at].d = node.bounds[at].d.clamp(-4095, 4095);
 }
 
-fn drop_bound(random: &mut Random, node: &mut DraftNode) {
+pub fn drop_bound(random: &mut Random, node: &mut DraftNode) {
     if !node.bounds.is_empty() {
         node.bounds.swap_remove(random.below(node.bounds.len()));
     }
@@ -83,11 +85,9 @@ fn merge(random: &mut Random, draft: &mut Draft, number: usize) {
         false,
     );
     draft.nodes[number].bounds = merged;
-    for node in &mut draft.nodes {
-        for successor in node.rows.iter_mut().flatten() {
-            if *successor == other {
-                *successor = number;
-            }
+    for named in draft.nodes.iter_mut().flat_map(DraftNode::named_mut) {
+        if *named == other {
+            *named = number;
         }
     }
 }
@@ -98,7 +98,7 @@ fn change_row(
     number: usize,
     change: impl Fn(&mut Vec<usize>),
 ) {
-    let rows = &mut draft.nodes[number].rows;
+    let rows = draft.nodes[number].rows_mut();
     if !rows.is_empty() {
         let at = random.below(rows.len());
         change(&mut rows[at]);
@@ -107,10 +107,10 @@ fn change_row(
 
 /// Gives a row one successor per edge, mostly of the edge's location.
 fn unblock(random: &mut Random, model: &Model, draft: &mut Draft, number: usize) {
-    if draft.nodes[number].rows.is_empty() {
+    if draft.nodes[number].rows().is_empty() {
         return;
     }
-    let at = random.below(draft.nodes[number].rows.len());
+    let at = random.below(draft.nodes[number].rows().len());
     let Some(action) = model.locations[draft.nodes[number].location]
         .actions
         .get(at)
@@ -130,7 +130,7 @@ fn unblock(random: &mut Random, model: &Model, draft: &mut Draft, number: usize)
             fitting.unwrap_or(any)
         });
     }
-    draft.nodes[number].rows[at] = row;
+    draft.nodes[number].rows_mut()[at] = row;
 }
 
 fn some_bound(random: &mut Random, clocks: usize) -> Bound {

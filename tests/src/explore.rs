@@ -1,10 +1,12 @@
 //! Tables by forward exploration: from the start zone on, each row's reset reach is put into a node,
-//! an old one, a new one or one made larger, until all nodes hold what lands in them.
+//! an old one, a new one or one made larger, until all nodes hold what lands in them. Then some nodes
+//! are cut.
 //!
 //! The zones are those of the independent reading. Nothing rests on them being right: what is made
 //! here is only an input, and a table that should not be accepted is as good a one.
 
-use crate::drafts::{random_whole, Draft, DraftNode};
+use crate::cuts::cut_some;
+use crate::drafts::{random_whole, Draft, DraftBody, DraftNode};
 use crate::models::{zone_bounds, Size};
 use crate::random::Random;
 use crate::reading::judging::ModelZones;
@@ -31,6 +33,9 @@ pub fn explore(random: &mut Random, model: &Model) -> Draft {
         raise_some_values(random, &mut draft);
     }
     draft.settle_values(model);
+    if random.one_in(2) {
+        cut_some(random, model, &mut draft);
+    }
     draft
 }
 
@@ -91,7 +96,7 @@ impl<'a> Explorer<'a> {
             }
             rows.push(row);
         }
-        self.nodes[number].rows = rows;
+        self.nodes[number].body = DraftBody::Rows(rows);
     }
 
     fn zone(&self, number: usize) -> Zone {
@@ -150,7 +155,7 @@ impl<'a> Explorer<'a> {
             location,
             bounds,
             value: 0,
-            rows: Vec::new(),
+            body: DraftBody::Rows(Vec::new()),
         });
         number
     }
@@ -173,11 +178,11 @@ impl<'a> Explorer<'a> {
     fn fill_empty_rows(&mut self) {
         for number in 0..self.nodes.len() {
             let at = &self.model.locations[self.nodes[number].location];
-            for row in 0..self.nodes[number].rows.len() {
-                if self.nodes[number].rows[row].is_empty() && self.random.one_in(5) {
+            for row in 0..self.nodes[number].rows().len() {
+                if self.nodes[number].rows()[row].is_empty() && self.random.one_in(5) {
                     let edges = at.actions[row].edges.iter();
                     let found = edges.map(|edge| self.any_node_of(edge.location)).collect();
-                    self.nodes[number].rows[row] = Option::unwrap_or_default(found);
+                    self.nodes[number].rows_mut()[row] = Option::unwrap_or_default(found);
                 }
             }
         }
@@ -190,7 +195,7 @@ impl<'a> Explorer<'a> {
 
 /// Bounds that a word can hold: those with a larger `d` are left out, those with a smaller one are
 /// loosened to the smallest.
-fn spelled(bounds: Vec<Bound>) -> Vec<Bound> {
+pub fn spelled(bounds: Vec<Bound>) -> Vec<Bound> {
     let small_enough = bounds.into_iter().filter(|bound| bound.d <= 4095);
     small_enough
         .map(|bound| Bound {
@@ -238,13 +243,16 @@ mod tests {
     #[test]
     fn explored_tables_are_accepted() {
         let mut random = Random::new(7);
+        let mut cut = 0;
         for _ in 0..500 {
             let size = Size::random(&mut random);
             let words = models::model(&mut random, &size);
             let Ok(model) = parse_model(&words) else {
                 continue;
             };
-            let table = explore(&mut random, &model).words();
+            let draft = explore(&mut random, &model);
+            cut += usize::from(draft.nodes.iter().any(DraftNode::is_cut));
+            let table = draft.words();
             let verdict = judge(&words, &table);
             assert!(
                 verdict.is_ok(),
@@ -253,5 +261,6 @@ mod tests {
                 spell::hex(&table)
             );
         }
+        assert!(cut > 150, "{cut}");
     }
 }

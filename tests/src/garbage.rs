@@ -31,7 +31,21 @@ fn word_of_kind(random: &mut Random, kind: u32) -> u32 {
         0x9 => spell::value(random.below(12) as u32),
         0xB => spell::successor(small),
         0xC => spell::start_node(small),
+        0xD => spell::cut(&small_cut(random)),
         _ => kind << 28,
+    }
+}
+
+/// Mostly an upper bound of one clock.
+fn small_cut(random: &mut Random) -> Bound {
+    if random.one_in(6) {
+        return small_bound(random);
+    }
+    Bound {
+        i: random.pick(&[1, 1, 1, 2]),
+        j: 0,
+        d: random.between(-1, 4),
+        strict: random.one_in(3),
     }
 }
 
@@ -95,7 +109,14 @@ pub fn garbage_table(random: &mut Random) -> Vec<u32> {
             words.push(word_of_kind(random, 0x5));
         }
         words.push(spell::value(random.pick(&[0, 3, 10, 10, 11])));
-        for _ in 0..random.below(4) {
+        let cut = random.one_in(4);
+        if cut {
+            words.push(word_of_kind(random, 0xD));
+            let parts = random.pick(&[2, 2, 2, 2, 1, 3]);
+            words.extend((0..parts).map(|_| word_of_kind(random, 0xB)));
+        }
+        let rows = if cut { 0 } else { random.below(4) };
+        for _ in 0..rows {
             words.push(if random.one_in(3) {
                 spell::BLOCKED
             } else {

@@ -1,7 +1,7 @@
 //! Outside evidence for the miss-chance judge: code that shares nothing with the proved crates.
 //!
 //! `reading` is an independent reading of document 01, `plain` a plain judge written for speed. `plan`
-//! draws inputs (`models`, `explore`, `edits`, `mutate`, `garbage`, `boundaries`, `questions`,
+//! draws inputs (`models`, `explore`, `cuts`, `edits`, `mutate`, `garbage`, `boundaries`, `questions`,
 //! `program_inputs`) and has the judge under test, the reading and the plain judge answer them
 //! (`comparer`). `cases` holds all of them against the stored answers under `tests/cases`. `evidence`
 //! holds answers against valuations that are tried one by one (`points`, `player`, `witness`).
@@ -12,6 +12,7 @@
 pub mod boundaries;
 pub mod cases;
 pub mod comparer;
+pub mod cuts;
 pub mod drafts;
 pub mod edits;
 pub mod evidence;

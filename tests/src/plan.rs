@@ -2,6 +2,7 @@
 
 use crate::boundaries::{self, Pair};
 use crate::comparer::{Comparer, Fault};
+use crate::cuts::spoil_cut;
 use crate::drafts::Draft;
 use crate::edits::{loosen, reroute, tighten};
 use crate::evidence::Evidence;
@@ -128,7 +129,7 @@ impl<'a> Run<'a> {
         };
         let draft = explore(&mut self.random, &model);
         self.pair(&words, &draft.words())?;
-        for _ in 0..12 {
+        for _ in 0..16 {
             let near = near(&mut self.random, &model, &draft);
             self.pair(&words, &near.words())?;
         }
@@ -222,16 +223,17 @@ impl<'a> Run<'a> {
 fn near(random: &mut Random, model: &Model, draft: &Draft) -> Draft {
     let mut near = draft.clone();
     for _ in 0..random.pick(&[1, 1, 2, 3]) {
-        match random.below(3) {
+        match random.below(4) {
             0 => loosen(random, model, &mut near),
             1 => tighten(random, model, &mut near),
-            _ => reroute(random, model, &mut near),
+            2 => reroute(random, model, &mut near),
+            _ => spoil_cut(random, model, &mut near),
         }
     }
     near
 }
 
-/// A model that is small enough for the player, with its explored table and four near ones; none if
+/// A model that is small enough for the player, with its explored table and five near ones; none if
 /// it has no start state.
 pub fn small_pairs(random: &mut Random) -> Vec<Pair> {
     let size = Size::for_player(random);
@@ -241,7 +243,7 @@ pub fn small_pairs(random: &mut Random) -> Vec<Pair> {
     };
     let draft = explore(random, &model);
     let mut pairs = vec![(words.clone(), draft.words())];
-    for _ in 0..4 {
+    for _ in 0..5 {
         let near = near(random, &model, &draft);
         pairs.push((words.clone(), near.words()));
     }

@@ -14,9 +14,9 @@ const CALLS: [&str; 5] = [
     "program",
 ];
 
-/// All refusals of document 01.
-const REFUSALS: [u32; 22] = [
-    1, 2, 3, 4, 5, 6, 11, 12, 13, 14, 15, 16, 17, 18, 19, 20, 21, 31, 32, 33, 41, 42,
+/// All refusals of document 01, and those of document 02, card 1.
+const REFUSALS: [u32; 25] = [
+    1, 2, 3, 4, 5, 6, 11, 12, 13, 14, 15, 16, 17, 18, 19, 20, 21, 31, 32, 33, 41, 42, 51, 52, 53,
 ];
 
 /// All answers that are no refusals.
@@ -75,11 +75,15 @@ pub fn evidence(evidence: &Evidence, tally: &Tally) -> String {
             evidence.claims
         ),
         format!(
-            "of these, refuted when the start's value is lowered by one: {}",
+            "accepted tables with a cut: {}, of these played at scales 1 to 6: {}; claims of cut nodes upheld {}",
+            tally.accepted_with_cut, evidence.played_with_cut, evidence.claims_of_cut
+        ),
+        format!(
+            "played tables refuted when the start's value is lowered by one: {}",
             evidence.tight
         ),
         format!(
-            "their rows and starts searched for a witness in vain: {}, left out as too large: {}",
+            "their rows, parts and starts searched for a witness in vain: {}, left out as too large: {}",
             evidence.fruitless, evidence.fruitless_left_out
         ),
         format!(
@@ -117,7 +121,7 @@ pub fn lacks(tally: &Tally, evidence: &Evidence) -> Vec<String> {
         let count = tally.answers.get(&(call, answer)).copied().unwrap_or(0);
         (count, 1, format!("answers of {call} {answer:?}"))
     });
-    let witnessed = [16, 18, 21].map(|number| {
+    let witnessed = [16, 18, 21, 53].map(|number| {
         let count = evidence.witnesses.get(&number).copied().unwrap_or(0);
         (count, 1, format!("witnesses for {number}"))
     });
@@ -129,7 +133,9 @@ pub fn lacks(tally: &Tally, evidence: &Evidence) -> Vec<String> {
             "comparisons of the plain judge",
         ),
         (tally.of_call("program"), 5000, "program runs"),
+        (tally.accepted_with_cut, 1000, "accepted tables with a cut"),
         (evidence.played, 1000, "tables played"),
+        (evidence.played_with_cut, 1000, "tables with a cut played"),
         (evidence.tight, 100, "bounds found to be tight"),
         (evidence.fruitless, 1000, "accepted rows searched"),
         (evidence.zones, 1000, "zone questions tried out"),
@@ -153,6 +159,6 @@ mod tests {
     #[test]
     fn an_idle_run_lacks_everything() {
         let lacks = lacks(&Tally::default(), &Evidence::default());
-        assert_eq!(lacks.len(), REFUSALS.len() + ANSWERS.len() + 3 + 7);
+        assert_eq!(lacks.len(), REFUSALS.len() + ANSWERS.len() + 4 + 9);
     }
 }

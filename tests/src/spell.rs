@@ -1,4 +1,5 @@
-//! Words from their fields, as the section "Words" of document 01 lays them out.
+//! Words from their fields, as the section "Words" of document 01 lays them out, and the D word of
+//! document 02, card 1.
 
 use crate::reading::Bound;
 
@@ -19,8 +20,17 @@ pub fn edge(resets: u32, location: usize, weight: u32) -> u32 {
 }
 
 pub fn bound(bound: &Bound) -> u32 {
+    0x5000_0000 | fields(bound)
+}
+
+/// A D word: the fields of a bound.
+pub fn cut(bound: &Bound) -> u32 {
+    0xD000_0000 | fields(bound)
+}
+
+fn fields(bound: &Bound) -> u32 {
     let clocks = (bound.i as u32) << 24 | (bound.j as u32) << 20;
-    0x5000_0000 | clocks | u32::from(bound.strict) << 19 | (bound.d + 4096) as u32
+    clocks | u32::from(bound.strict) << 19 | (bound.d + 4096) as u32
 }
 
 pub fn bounds(bounds: &[Bound]) -> Vec<u32> {
@@ -85,6 +95,7 @@ mod tests {
             (bound(&at_most_3), bound(&above_3)),
             (0x51001003, 0x50180FFD)
         );
+        assert_eq!((cut(&at_most_3), cut(&above_3)), (0xD1001003, 0xD0180FFD));
         assert_eq!((head(1, 10), location(true)), (0x1110000A, 0x20000001));
         assert_eq!((edge(0, 1, 9), start(0)), (0x40010009, 0x60000000));
         assert_eq!(

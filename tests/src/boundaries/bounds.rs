@@ -1,7 +1,7 @@
 //! Bounds with the largest constants, and zones that only fine scales have valuations in.
 
 use super::{shuffled_clocks, Pair};
-use crate::drafts::{Draft, DraftNode};
+use crate::drafts::{Draft, DraftBody, DraftNode};
 use crate::random::Random;
 use crate::reading::Bound;
 use crate::spell;
@@ -136,7 +136,7 @@ fn node(location: usize, bounds: Vec<Bound>, rows: Vec<Vec<usize>>) -> DraftNode
         location,
         bounds,
         value: 0,
-        rows,
+        body: DraftBody::Rows(rows),
     }
 }
 

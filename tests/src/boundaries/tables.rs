@@ -1,7 +1,7 @@
 //! Tables with as many nodes as may be, and one more; node numbers and values at their limits.
 
 use super::{idle_model, Pair};
-use crate::drafts::{Draft, DraftNode};
+use crate::drafts::{Draft, DraftBody, DraftNode};
 use crate::models::weights;
 use crate::random::Random;
 use crate::spell;
@@ -150,6 +150,6 @@ fn bare_node(location: usize, value: u32, rows: Vec<Vec<usize>>) -> DraftNode {
         location,
         bounds: Vec::new(),
         value,
-        rows,
+        body: DraftBody::Rows(rows),
     }
 }
