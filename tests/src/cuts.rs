@@ -185,7 +185,12 @@ pub fn spoil_cut(random: &mut Random, model: &Model, draft: &mut Draft) {
     }
     let number = random.pick(&cuts);
     match random.below(4) {
-        0 => spoil_numbers(random, model, draft, number),
+        0 => {
+            spoil_numbers(random, model, draft, number);
+            if random.one_in(2) {
+                sink_values(model, draft);
+            }
+        }
         1 => spoil_bound(random, model, draft, number),
         2 => spoil_holder(random, draft, number),
         _ => spoil_node(random, draft, number),
@@ -195,26 +200,52 @@ pub fn spoil_cut(random: &mut Random, model: &Model, draft: &mut Draft) {
 /// Another node for a part: the node itself, a lower one, one of another location, any, the other
 /// part's. Or the two exchanged, or a circle.
 fn spoil_numbers(random: &mut Random, model: &Model, draft: &mut Draft, number: usize) {
-    let location = draft.nodes[number].location;
-    let elsewhere = |other: &usize| draft.nodes[*other].location != location;
-    let others: Vec<usize> = (number..draft.nodes.len()).filter(elsewhere).collect();
     let any = random.below(draft.nodes.len());
+    let elsewhere = node_elsewhere(random, model, draft, number);
     let DraftBody::Cut(_, parts) = &mut draft.nodes[number].body else {
         return;
     };
     let side = random.below(2);
-    match random.below(7) {
+    match random.below(9) {
         0 => parts[side] = number,
         1 => parts[side] = random.below(number + 1),
-        2 if !others.is_empty() => parts[side] = random.pick(&others),
-        2 | 3 => parts[side] = any,
-        4 => parts[side] = parts[1 - side],
-        5 => parts.swap(0, 1),
+        2 => parts[side] = elsewhere,
+        3 => *parts = [elsewhere; 2],
+        4 => parts[side] = any,
+        5 => parts[side] = parts[1 - side],
+        6 => parts.swap(0, 1),
         _ => close_circle(random, model, draft, number),
     }
 }
 
-/// Cuts that come back to their beginning, which bound nothing: the values sink to what is left.
+/// A node above this one at another location: mostly a new one that holds all valuations, where a
+/// location without actions lets it have the value 0; else any, if there is one.
+fn node_elsewhere(random: &mut Random, model: &Model, draft: &mut Draft, number: usize) -> usize {
+    let own = draft.nodes[number].location;
+    let idle = |location: &usize| {
+        let at = &model.locations[*location];
+        *location != own && !at.target && at.actions.is_empty()
+    };
+    let idle: Vec<usize> = (0..model.locations.len()).filter(idle).collect();
+    if !idle.is_empty() && draft.nodes.len() < MOST_NODES {
+        draft.nodes.push(DraftNode {
+            location: random.pick(&idle),
+            bounds: Vec::new(),
+            value: 0,
+            body: DraftBody::Rows(Vec::new()),
+        });
+        return draft.nodes.len() - 1;
+    }
+    let elsewhere = |other: &usize| draft.nodes[*other].location != own;
+    let others: Vec<usize> = (number..draft.nodes.len()).filter(elsewhere).collect();
+    if others.is_empty() {
+        return number;
+    }
+    random.pick(&others)
+}
+
+/// Cuts that come back to their beginning, at once or by way of the parts. They bound nothing, so that
+/// the values sink.
 fn close_circle(random: &mut Random, model: &Model, draft: &mut Draft, number: usize) {
     let DraftBody::Cut(bound, parts) = draft.nodes[number].body else {
         return;
@@ -223,10 +254,14 @@ fn close_circle(random: &mut Random, model: &Model, draft: &mut Draft, number: u
         draft.nodes[number].body = DraftBody::Cut(bound, [number; 2]);
     } else {
         for part in parts {
-            let body = &mut draft.nodes[part].body;
-            *body = DraftBody::Cut(bound, [number; 2]);
+            draft.nodes[part].body = DraftBody::Cut(bound, [number; 2]);
         }
     }
+    sink_values(model, draft);
+}
+
+/// The least values that rows and cuts allow, also where a cut bounds nothing.
+fn sink_values(model: &Model, draft: &mut Draft) {
     for node in &mut draft.nodes {
         node.value = 0;
     }
@@ -261,19 +296,21 @@ fn spoil_holder(random: &mut Random, draft: &mut Draft, number: usize) {
     }
 }
 
-/// The cut node with a larger zone or a lower value, or with the rows of a part in place of the cut.
+/// The cut node with a larger zone, with a lower value, by one or down to that of a part, or with the
+/// rows of a part in place of the cut.
 fn spoil_node(random: &mut Random, draft: &mut Draft, number: usize) {
     let DraftBody::Cut(_, parts) = draft.nodes[number].body else {
         return;
     };
-    let rows = draft.nodes[random.pick(&parts)].body.clone();
+    let part = draft.nodes[random.pick(&parts)].clone();
     let node = &mut draft.nodes[number];
     match random.below(6) {
         0 => change_bound(random, node, |bound| bound.d += 1),
         1 => change_bound(random, node, |bound| bound.strict = false),
         2 => drop_bound(random, node),
-        3 | 4 => node.value = node.value.saturating_sub(1),
-        _ => node.body = rows,
+        3 => node.value = node.value.saturating_sub(1),
+        4 => node.value = part.value,
+        _ => node.body = part.body,
     }
 }
 

@@ -1,8 +1,11 @@
 //! A judge with one flaw to choose, among them the errors that document 01 says would pass a casual
-//! look. It is put together from the reading's parsers and zones.
+//! look, and errors that card 1 of document 02 invites. It is put together from the reading's parsers
+//! and zones.
 
-use crate::reading::{parse_model, parse_table, Action, Certificate, Model, Node, NodeRef};
-use crate::reading::{Refusal, Row, Table, Zone};
+use crate::reading::{
+    parse_model, parse_table, Action, Body, Bound, Certificate, Cut, Model, Node,
+};
+use crate::reading::{NodeRef, Refusal, Row, Table, Zone};
 
 #[derive(Clone, Copy, Debug, PartialEq, Eq)]
 pub enum Flaw {
@@ -23,10 +26,23 @@ pub enum Flaw {
     ForgetsTheStartNode,
     ForgetsTheStartInvariant,
     ForgetsTargetValues,
+    BelievesCuts,
+    TakesItsOwnNumberForAPart,
+    TakesLowerNumbersForParts,
+    ForgetsTheNegationOfTheRest,
+    ForgetsTheStrictnessOfTheRest,
+    ExchangesTheParts,
+    AsksTheValueOfTheFirstPartOnly,
+    ForgetsTheLocationOfParts,
+    AsksTheValueBeforeTheNumber,
+    AsksAllNumbersOfACutFirst,
+    ForgivesEmptyParts,
+    MeetsPartsWithTheInvariant,
+    AddsWhatAPartIsWorth,
 }
 
 impl Flaw {
-    pub const ALL: [Flaw; 17] = [
+    pub const ALL: [Flaw; 30] = [
         Flaw::TrustsANodesZoneToLieInItsInvariant,
         Flaw::DelaysPastTheInvariant,
         Flaw::ForgetsTheDelay,
@@ -44,6 +60,19 @@ impl Flaw {
         Flaw::ForgetsTheStartNode,
         Flaw::ForgetsTheStartInvariant,
         Flaw::ForgetsTargetValues,
+        Flaw::BelievesCuts,
+        Flaw::TakesItsOwnNumberForAPart,
+        Flaw::TakesLowerNumbersForParts,
+        Flaw::ForgetsTheNegationOfTheRest,
+        Flaw::ForgetsTheStrictnessOfTheRest,
+        Flaw::ExchangesTheParts,
+        Flaw::AsksTheValueOfTheFirstPartOnly,
+        Flaw::ForgetsTheLocationOfParts,
+        Flaw::AsksTheValueBeforeTheNumber,
+        Flaw::AsksAllNumbersOfACutFirst,
+        Flaw::ForgivesEmptyParts,
+        Flaw::MeetsPartsWithTheInvariant,
+        Flaw::AddsWhatAPartIsWorth,
     ];
 }
 
@@ -56,8 +85,8 @@ pub fn flawed_judge(flaw: Flaw, model: &[u32], table: &[u32]) -> Result<Certific
     } else {
         table.nodes.len()
     };
-    for node in &table.nodes[..judged] {
-        judge.node(node)?;
+    for number in 0..judged {
+        judge.node(number)?;
     }
     judge.start()?;
     let b = table.nodes[table.start.node].value;
@@ -83,13 +112,21 @@ impl Judge<'_> {
         Zone::of(self.model.clocks, &node.bounds)
     }
 
-    fn node(&self, node: &Node) -> Result<(), Refusal> {
-        let location = &self.model.locations[node.location];
-        if location.target {
+    fn node(&self, number: usize) -> Result<(), Refusal> {
+        let node = &self.table.nodes[number];
+        if self.model.locations[node.location].target {
             let good = node.value == self.table.whole || self.flaw == Flaw::ForgetsTargetValues;
             return demand(good, 15, node.value_place);
         }
-        for (row, action) in node.rows().iter().zip(&location.actions) {
+        match &node.body {
+            Body::Rows(rows) => self.rows(node, rows),
+            Body::Cut(cut) => self.cut(number, cut),
+        }
+    }
+
+    fn rows(&self, node: &Node, rows: &[Row]) -> Result<(), Refusal> {
+        let actions = &self.model.locations[node.location].actions;
+        for (row, action) in rows.iter().zip(actions) {
             let reach = self.reach(node, action);
             match row {
                 Row::Blocked { place } => {
@@ -162,7 +199,7 @@ impl Judge<'_> {
     }
 
     fn sum(&self, node: &Node, action: &Action, successors: &[NodeRef]) -> Result<(), Refusal> {
-        let value = |successor: &NodeRef| u64::from(self.table.nodes[successor.node].value);
+        let value = |successor: &NodeRef| u64::from(self.worth(&self.table.nodes[successor.node]));
         let products = action.edges.iter().zip(successors);
         let mut sum: u64 = products
             .map(|(edge, to)| u64::from(edge.weight) * value(to))
@@ -172,6 +209,84 @@ impl Judge<'_> {
             (sum, most) = (sum & 0xFFFF_FFFF, most & 0xFFFF_FFFF);
         }
         demand(sum <= most, 19, successors[0].place)
+    }
+
+    /// What a successor adds to a sum.
+    fn worth(&self, node: &Node) -> u32 {
+        match node.cut() {
+            Some(cut) if self.flaw == Flaw::AddsWhatAPartIsWorth => {
+                let values = cut.parts.map(|part| self.table.nodes[part.node].value);
+                values[0].max(values[1])
+            }
+            _ => node.value,
+        }
+    }
+
+    fn cut(&self, number: usize, cut: &Cut) -> Result<(), Refusal> {
+        let sides = self.sides(cut);
+        if self.flaw == Flaw::AsksAllNumbersOfACutFirst {
+            for named in &cut.parts {
+                self.number(number, named)?;
+            }
+        }
+        for (named, side) in cut.parts.iter().zip(sides) {
+            let part = self.part(&self.table.nodes[number], side);
+            if self.flaw == Flaw::ForgivesEmptyParts && part.is_empty() {
+                continue;
+            }
+            if self.flaw == Flaw::AsksTheValueBeforeTheNumber {
+                self.location_and_value(number, cut, named)?;
+            }
+            self.number(number, named)?;
+            self.location_and_value(number, cut, named)?;
+            let believed = self.flaw == Flaw::BelievesCuts;
+            let inside = part.inside(&self.zone(&self.table.nodes[named.node]));
+            demand(believed || inside, 53, named.place)?;
+        }
+        Ok(())
+    }
+
+    /// The bounds of the two parts.
+    fn sides(&self, cut: &Cut) -> [Bound; 2] {
+        let (bound, rest) = (cut.bound, cut.bound.negated());
+        match self.flaw {
+            Flaw::ForgetsTheNegationOfTheRest => [bound, bound],
+            Flaw::ForgetsTheStrictnessOfTheRest => {
+                let strict = bound.strict;
+                [bound, Bound { strict, ..rest }]
+            }
+            Flaw::ExchangesTheParts => [rest, bound],
+            _ => [bound, rest],
+        }
+    }
+
+    fn part(&self, node: &Node, side: Bound) -> Zone {
+        let part = self.zone(node).meet(&Zone::of(self.model.clocks, &[side]));
+        if self.flaw == Flaw::MeetsPartsWithTheInvariant {
+            return part.meet(&self.invariant(node.location));
+        }
+        part
+    }
+
+    /// 51.
+    fn number(&self, number: usize, named: &NodeRef) -> Result<(), Refusal> {
+        let above = match self.flaw {
+            Flaw::TakesItsOwnNumberForAPart => named.node >= number,
+            Flaw::TakesLowerNumbersForParts => named.node != number,
+            _ => named.node > number,
+        };
+        demand(above, 51, named.place)
+    }
+
+    /// 52.
+    fn location_and_value(&self, number: usize, cut: &Cut, named: &NodeRef) -> Result<(), Refusal> {
+        let (node, holder) = (&self.table.nodes[number], &self.table.nodes[named.node]);
+        let forgotten = self.flaw == Flaw::ForgetsTheLocationOfParts;
+        let left_out =
+            self.flaw == Flaw::AsksTheValueOfTheFirstPartOnly && named.place != cut.parts[0].place;
+        let located = forgotten || holder.location == node.location;
+        let valued = left_out || holder.value <= node.value;
+        demand(located && valued, 52, named.place)
     }
 
     fn start(&self) -> Result<(), Refusal> {

@@ -7,7 +7,7 @@ use crate::flawed::{flawed_judge, Flaw};
 use crate::plan::{small_pairs, Run, Work};
 use crate::random::Random;
 use crate::reading::{Certificate, Refusal};
-use crate::worked::{cases, MODEL, TABLE};
+use crate::worked::{cases, cuts, CUT_TABLE, MODEL, TABLE};
 use crate::wrong::{self, Wrong};
 
 /// Runs every wrong judge until a difference is found: its name and the comparisons before that.
@@ -43,8 +43,8 @@ fn caught_at(side: &str, mut run: Run, wrong: &Wrong) -> Result<(String, usize),
     }
 }
 
-/// Tells the player and the search for witnesses things that are false of document 01's cases; hands
-/// back how many.
+/// Tells the player and the search for witnesses things that are false of the worked cases; hands back
+/// how many.
 pub fn false_claims() -> Result<usize, Fault> {
     let mut evidence = Evidence::default();
     let right = Certificate {
@@ -68,6 +68,25 @@ pub fn false_claims() -> Result<usize, Fault> {
         let refused = evidence.of_refusal(&MODEL, &TABLE, &Refusal { number, place });
         told.push(("a refusal of M and T", refused));
     }
+    let cut = Certificate { nodes: 5, ..right };
+    evidence.of_acceptance(&MODEL, &CUT_TABLE, &cut)?;
+    let lower = Certificate { b: 0, ..cut };
+    let accepted = evidence.of_acceptance(&MODEL, &CUT_TABLE, &lower);
+    told.push(("b = 0 with a cut", accepted));
+    for case in cuts() {
+        if case.line.starts_with("REFUSED 53 ") {
+            let accepted = evidence.of_acceptance(&case.model, &case.table, &cut);
+            told.push((case.line, accepted));
+        }
+    }
+    for place in [4, 5, 6, 14] {
+        let refusal = Refusal { number: 53, place };
+        let refused = evidence.of_refusal(&MODEL, &CUT_TABLE, &refusal);
+        told.push(("a refusal of M and the table with a cut", refused));
+    }
+    let claimless = [&CUT_TABLE[..3], &[0x90000000], &CUT_TABLE[4..]].concat();
+    let accepted = evidence.of_acceptance(&MODEL, &claimless, &cut);
+    told.push(("0 for a cut node", accepted));
     let (above_2, at_most_3, below_3) = (0x50180FFE, 0x51001003, 0x51081003);
     let mut question = |first: &[u32], second: Option<&[u32]>, answer| {
         evidence.of_question(1, first, second, answer)
@@ -87,9 +106,16 @@ pub fn false_claims() -> Result<usize, Fault> {
 /// Gives the player and the search for witnesses the answers of each flawed judge, without any
 /// comparison: its name and the answers before one was objected to.
 pub fn flaws_against_player() -> Result<Vec<(String, usize)>, Fault> {
-    // These two lead to no false bound and no false refusal of a row or start: only to another
+    // These lead to no false bound and no false refusal of a row, part or start: only to another
     // refusal, or to an acceptance that happens to be sound.
-    let harmless = [Flaw::AsksTheSumFirst, Flaw::ForgivesRowsWithEmptyReach];
+    let harmless = [
+        Flaw::AsksTheSumFirst,
+        Flaw::ForgivesRowsWithEmptyReach,
+        Flaw::AsksTheValueBeforeTheNumber,
+        Flaw::AsksAllNumbersOfACutFirst,
+        Flaw::ForgivesEmptyParts,
+        Flaw::AddsWhatAPartIsWorth,
+    ];
     let flaws = Flaw::ALL
         .into_iter()
         .filter(|flaw| !harmless.contains(flaw));
@@ -148,6 +174,6 @@ mod tests {
 
     #[test]
     fn false_claims_are_objected_to() {
-        assert_eq!(false_claims().ok(), Some(12));
+        assert_eq!(false_claims().ok(), Some(23));
     }
 }

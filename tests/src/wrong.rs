@@ -50,9 +50,9 @@ pub fn all() -> Vec<Wrong> {
     all.extend(wrong_questions());
     all.extend(wrong_programs());
     all.extend([1, 2, 3, 4, 5, 6].map(misplaced_in_model));
-    all.extend((11..=21).map(misplaced_in_table));
+    all.extend((11..=21).chain(51..=53).map(misplaced_in_table));
     all.extend([31, 32, 33].map(misplaced_in_question));
-    for (one, other) in [(1, 11), (2, 12), (17, 18), (20, 21)] {
+    for (one, other) in [(1, 11), (2, 12), (17, 18), (20, 21), (51, 52), (52, 53)] {
         all.push(exchanged_in_judging(one, other));
     }
     all.push(exchanged_in_question(32, 33));
@@ -109,6 +109,15 @@ fn wrong_judges() -> Vec<Wrong> {
                 nodes: right.nodes.max(2),
                 ..right
             })
+        }),
+        with_judge("knows no cuts", |model, table| {
+            reading::judge(model, &changed_cuts(table, |word| word & 0x0FFF_FFFF))
+        }),
+        with_judge("takes any j in a cut", |model, table| {
+            reading::judge(model, &changed_cuts(table, |word| word & !(0xF << 20)))
+        }),
+        with_judge("ignores strictness of a cut", |model, table| {
+            reading::judge(model, &changed_cuts(table, |word| word & !(1 << 19)))
         }),
         with_judge("reads a table before the model", |model, table| {
             if table.is_empty() {
@@ -266,6 +275,18 @@ fn exchanged_in_question(one: u32, other: u32) -> Wrong {
         zone_inside: Box::new(inside),
         ..right(&format!("exchanges {one} and {other}"))
     }
+}
+
+/// Every D word changed.
+fn changed_cuts(words: &[u32], change: impl Fn(u32) -> u32) -> Vec<u32> {
+    let changed = |&word: &u32| {
+        if word >> 28 == 0xD {
+            change(word)
+        } else {
+            word
+        }
+    };
+    words.iter().map(changed).collect()
 }
 
 /// Every bound with its strict bit cleared.
