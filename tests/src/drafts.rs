@@ -116,7 +116,8 @@ impl Draft {
         raised
     }
 
-    /// The least value that the node's rows or parts allow, given the values of the nodes that they name.
+    /// The least value that the node's rows or parts allow, given the values of the nodes that they
+    /// name.
     fn needed_value(&self, model: &Model, number: usize) -> u32 {
         let node = &self.nodes[number];
         let location = &model.locations[node.location];

@@ -18,8 +18,8 @@ pub fn pairs(random: &mut Random) -> Vec<Pair> {
     pairs
 }
 
-/// D words with each clock, with d at its limits and with each spare bit, over 1 to 4 clocks. Both parts
-/// may be anything.
+/// D words with each clock, with d at its limits and with each spare bit, over 1 to 4 clocks. Both
+/// parts may be anything.
 fn fields() -> Vec<Pair> {
     let mut cuts = Vec::new();
     for i in 0..=5_u32 {

@@ -1,9 +1,9 @@
 //! Single words: kinds, fields, ranges and spare bits.
 //!
 //! Reads the section "Words" of document 01, apart from what may follow what, and the D word of
-//! document 02, card 1. Each reading function is given a word whose kind is already known to be right. It hands back the fields, or nothing if
-//! one is outside its range or a spare bit is set. What needs the rest of the file (does this
-//! location exist, is this weight's sum right) is left to the parsers.
+//! document 02, card 1. Each reading function is given a word whose kind is already known to be right.
+//! It hands back the fields, or nothing if one is outside its range or a spare bit is set. What needs
+//! the rest of the file (does this location exist, is this weight's sum right) is left to the parsers.
 
 pub const HEAD: u32 = 0x1;
 pub const LOCATION: u32 = 0x2;
