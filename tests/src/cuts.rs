@@ -200,26 +200,25 @@ pub fn spoil_cut(random: &mut Random, model: &Model, draft: &mut Draft) {
 /// Another node for a part: the node itself, a lower one, one of another location, any, the other
 /// part's. Or the two exchanged, or a circle.
 fn spoil_numbers(random: &mut Random, model: &Model, draft: &mut Draft, number: usize) {
-    let any = random.below(draft.nodes.len());
-    let elsewhere = node_elsewhere(random, model, draft, number);
-    let DraftBody::Cut(_, parts) = &mut draft.nodes[number].body else {
+    let DraftBody::Cut(bound, mut parts) = draft.nodes[number].body else {
         return;
     };
     let side = random.below(2);
     match random.below(9) {
         0 => parts[side] = number,
         1 => parts[side] = random.below(number + 1),
-        2 => parts[side] = elsewhere,
-        3 => *parts = [elsewhere; 2],
-        4 => parts[side] = any,
+        2 => parts[side] = node_elsewhere(random, model, draft, number),
+        3 => parts = [node_elsewhere(random, model, draft, number); 2],
+        4 => parts[side] = random.below(draft.nodes.len()),
         5 => parts[side] = parts[1 - side],
         6 => parts.swap(0, 1),
-        _ => close_circle(random, model, draft, number),
+        _ => return close_circle(random, model, draft, number),
     }
+    draft.nodes[number].body = DraftBody::Cut(bound, parts);
 }
 
-/// A node above this one at another location: mostly a new one that holds all valuations, where a
-/// location without actions lets it have the value 0; else any, if there is one.
+/// A node above this one at another location: a new one that holds all valuations with the value 0, where
+/// a location without actions allows it; else any, if there is one.
 fn node_elsewhere(random: &mut Random, model: &Model, draft: &mut Draft, number: usize) -> usize {
     let own = draft.nodes[number].location;
     let idle = |location: &usize| {

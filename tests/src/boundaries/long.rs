@@ -27,15 +27,19 @@ pub fn pairs() -> Vec<Pair> {
         ]
         .concat()
     };
-    let cut = |first: usize, second: usize| {
-        let words = [
-            0xD100_1001,
-            spell::successor(first),
-            spell::successor(second),
-        ];
+    let cut = |second: usize, zone: &[u32]| {
+        let words = [0xD100_1001, spell::successor(1), spell::successor(second)];
         let whole = table(&[]);
-        let (start, last) = (whole.len() - 1, [spell::node(0), spell::value(0)]);
-        [&whole[..start], &words, &last, &whole[start..]].concat()
+        let (nodes, start) = whole.split_at(whole.len() - 1);
+        [
+            nodes,
+            &words,
+            &[spell::node(0)],
+            zone,
+            &[spell::value(0)],
+            start,
+        ]
+        .concat()
     };
     let no_start = [&idle_model()[..], &many(), &[0x5100_0FFF]].concat();
     vec![
@@ -44,9 +48,9 @@ pub fn pairs() -> Vec<Pair> {
         (model(&[]), table(&[BOUND | SPARE_BIT])),
         (model(&[]), table(&[0xD000_0000])),
         (model(&[]), table(&[BOUND - 1])),
-        (model(&[]), cut(1, 1)),
-        (model(&[]), cut(1, 0)),
-        (model(&[]), cut(1, 2)),
+        (model(&[]), cut(0, &[])),
+        (model(&[]), cut(2, &[])),
+        (model(&[]), cut(1, &[0x5100_1001])),
         (model(&[]), many()),
         (many(), table(&[])),
         (no_start, table(&[])),
