@@ -10,12 +10,16 @@ use crate::{spell, worked};
 /// How many words the program takes at most.
 pub const LONGEST: usize = 16_384;
 
+/// How many nodes a table has at most.
+const MOST_NODES: usize = 64;
+
 /// A line of the figures. The number of the last four is how many words the table, the model, the
 /// zone or both zones together have.
 #[derive(Clone, Copy)]
 pub enum Shape {
     Worked,
     Full { clocks: usize, nodes: usize },
+    Cuts { clocks: usize },
     LongestFile,
     LongTable(usize),
     LongModel(usize),
@@ -29,6 +33,7 @@ pub fn all() -> Vec<Shape> {
     for clocks in 1..=4 {
         shapes.extend([1, 8, 64].map(|nodes| Shape::Full { clocks, nodes }));
     }
+    shapes.extend([1, 4].map(|clocks| Shape::Cuts { clocks }));
     shapes.push(Shape::LongestFile);
     for words in [10_000, 100_000, 1_000_000] {
         shapes.extend([
@@ -46,10 +51,16 @@ impl Shape {
         let name = match self {
             Shape::Worked => "judge, worked case",
             Shape::Full { clocks, nodes } => {
-                let plural = |count: usize| if count == 1 { "" } else { "s" };
-                let (many_clocks, many_nodes) = (plural(*clocks), plural(*nodes));
                 return format!(
-                    "judge, full: {clocks} clock{many_clocks}, {nodes} node{many_nodes}"
+                    "judge, full: {}, {}",
+                    many(*clocks, "clock"),
+                    many(*nodes, "node")
+                );
+            }
+            Shape::Cuts { clocks } => {
+                return format!(
+                    "judge, cuts: {}, {MOST_NODES} nodes",
+                    many(*clocks, "clock")
                 );
             }
             Shape::LongestFile => "judge, longest file",
@@ -67,6 +78,7 @@ impl Shape {
             Shape::Full { clocks, nodes } => {
                 Input::Judging(full_model(clocks), full_table(clocks, nodes))
             }
+            Shape::Cuts { clocks } => Input::Judging(still_model(clocks), cut_table(clocks)),
             Shape::LongestFile => Shape::LongTable(LONGEST - worked::MODEL.len()).input(),
             Shape::LongTable(words) => Input::Judging(worked::MODEL.to_vec(), long_table(words)),
             Shape::LongModel(words) => Input::Model(long_model(words)),
@@ -74,6 +86,11 @@ impl Shape {
             Shape::LongZones(words) => Input::Zones(bounds(1, words / 2), bounds(2, words / 2)),
         }
     }
+}
+
+fn many(count: usize, name: &str) -> String {
+    let plural = if count == 1 { "" } else { "s" };
+    format!("{count} {name}{plural}")
 }
 
 /// What a call is given; the zones are over four clocks.
@@ -201,16 +218,50 @@ fn full_model(clocks: usize) -> Vec<u32> {
 fn full_table(clocks: usize, nodes: usize) -> Vec<u32> {
     let mut table = vec![spell::table_head(1)];
     for node in 0..nodes {
-        table.push(spell::node(0));
-        table.extend(each_at_most(clocks, 20));
-        let apart = |i| {
-            let others = (1..=clocks).filter(move |j| *j != i);
-            others.map(move |j| at_most(i, j, 20))
-        };
-        table.extend((1..=clocks).flat_map(apart));
-        table.push(spell::value(1));
+        table.extend(full_node(clocks));
         table.extend((0..32 * 4).map(|edge| spell::successor((node + edge) % nodes)));
     }
+    table.push(spell::start_node(0));
+    table
+}
+
+/// A node up to its value, with an upper bound for every clock and every pair of clocks.
+fn full_node(clocks: usize) -> Vec<u32> {
+    let mut node = vec![spell::node(0)];
+    node.extend(each_at_most(clocks, 20));
+    let apart = |i| {
+        let others = (1..=clocks).filter(move |j| *j != i);
+        others.map(move |j| at_most(i, j, 20))
+    };
+    node.extend((1..=clocks).flat_map(apart));
+    node.push(spell::value(1));
+    node
+}
+
+/// One location without actions.
+fn still_model(clocks: usize) -> Vec<u32> {
+    let mut model = vec![spell::head(clocks, 1), spell::location(false)];
+    model.push(spell::start(0));
+    model.extend(each_at_most(clocks, 0));
+    model
+}
+
+/// As many nodes as a table can have, each but the last cut in two, its parts in the next two nodes.
+/// All have the same zone, and the clocks are cut in turn.
+fn cut_table(clocks: usize) -> Vec<u32> {
+    let mut table = vec![spell::table_head(1)];
+    let last = MOST_NODES - 1;
+    for node in 0..last {
+        table.extend(full_node(clocks));
+        table.push(spell::cut(&Bound {
+            i: 1 + node % clocks,
+            j: 0,
+            d: 10,
+            strict: false,
+        }));
+        table.extend([node + 1, node + 2].map(|part| spell::successor(part.min(last))));
+    }
+    table.extend(full_node(clocks));
     table.push(spell::start_node(0));
     table
 }
