@@ -12,6 +12,7 @@ use Rattle.zone.specs.Questions.{AskedEmpty, AskedInside}
 use Rattle.zone.specs.Cells.{tighter?, tighterOf, sum, negated, negative?}
 use Rattle.zone.specs.Squares.{listOf, withBound, passedBelow, source, beforeBelow, all?, empty?, inside?}
 use Rattle.zone.specs.Reading.{withWord}
+use Rattle.zone.specs.Parts.{holdingSquare, restSquare}
 use Rattle.zone.specs.Stores.{zoneAt, putBelow, putAt, withWordAt}
 use Rattle.zone.proofs.Cases.{zone-cases}
 use Rattle.model.specs.Kinds.{among, kindOf}
@@ -32,7 +33,7 @@ use Rattle.acceptance.specs.Judging.{Judged}
 use Rattle.judge.specs.Verdicts.{verdictAnswer}
 use Rattle.judge.specs.Reaching.{withLanding, withLandings, enabledSquare, enabledBelow, enabledKeys, waitedSquare, reachSquare}
 use Rattle.judge.specs.Findings.{orElse}
-use Rattle.judge.specs.Cutting.{holdingSquare, restSquare, partFinding, cutFinding}
+use Rattle.judge.specs.Cutting.{partFinding, cutFinding}
 use Rattle.judge.specs.Walk.{successorFinding, successorOutcome, successorsFrom, rowsFrom, rowsFinding, nodeFinding, nodesFrom, walked}
 use Rattle.judge.specs.Deciding.{startVerdict}
 use Rattle.acceptance.specs.declared.certificate.Certificate.{Certificate}

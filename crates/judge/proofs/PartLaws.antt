@@ -1,5 +1,5 @@
 -- The parts of a node that is cut: their tables decide whether each lies in a zone, and what the code works out of them. Assumes nothing.
-use Prim.Native.Nat.{ℕ, _+_, _≤_, _<_, _^_}
+use Prim.Native.Nat.{ℕ, _+_, _≤_, _<_}
 use mathlib.Core.Path.{_≡_}
 use mathlib.Core.Bool.{Bool, true, false, not, _&&_, _||_}
 use mathlib.Core.List.{List}
@@ -9,16 +9,14 @@ use lib.Dec.{eqb, leb}
 use lib.ListN.{getD}
 use Rattle.zone.specs.Scale.{Zone, Region, within, Inside}
 use Rattle.zone.specs.Words.{boundOf}
-use Rattle.zone.specs.Cells.{negated, size}
-use Rattle.zone.specs.Squares.{universe, withBound, tightened, empty?, inside?, Tightens}
-use Rattle.zone.specs.Reading.{cellOf, withWord}
+use Rattle.zone.specs.Squares.{universe, tightened, empty?, inside?, Tightens}
+use Rattle.zone.specs.Reading.{withWord}
+use Rattle.zone.specs.Parts.{holdingSquare, restSquare}
 use Rattle.zone.specs.Stores.{zoneAt}
-use Rattle.zone.specs.declared.bounds.Bound.{Bound as Cell}
 use Rattle.zone.specs.declared.zones.Zone.{Zone as Square}
-use Rattle.zone.proofs.KeyLaws.{size-cellOf}
 use Rattle.zone.proofs.Sizes.{tightens-fewer, tightens-withBound}
 use Rattle.zone.proofs.Regions.{Stands, inBoth, stands-same, stands-withBound}
-use Rattle.zone.proofs.Parts.{stands-rest, tightens-rest, part-yes, part-no}
+use Rattle.zone.proofs.PartLaws.{stands-rest, tightens-rest, part-yes, part-no}
 use Rattle.model.specs.Indexed.{withBounds}
 use Rattle.model.proofs.ZoneLaws.{GoodBound, GoodZone, stands-bounds, tightens-bounds}
 use Rattle.table.specs.Fields.{numberOf}
@@ -28,7 +26,7 @@ use Rattle.table.specs.Table.{Node}
 use Rattle.table.specs.declared.nodes.NodeEntry.{NodeEntry}
 use Rattle.acceptance.specs.Acceptance.{holdingPart, restPart}
 use Rattle.judge.specs.Findings.{orElse}
-use Rattle.judge.specs.Cutting.{holdingSquare, restSquare, partFinding, cutFinding, ZoneCut}
+use Rattle.judge.specs.Cutting.{partFinding, cutFinding}
 use Rattle.judge.specs.declared.findings.Finding.{Finding}
 use Rattle.judge.specs.declared.findings.Finding.the-variants as finding
 use Rattle.judge.proofs.FindingLaws.{found-first}
@@ -63,67 +61,48 @@ module _ (N : Node) (z : GoodZone (N .zone)) (w : ℕ) (g : GoodBound (boundOf w
 
 -- ---- what the code works out, step by step
 
--- a zone with the bound of a word, and with its negation
-module _ {w i j : ℕ} {b : Cell} {z : Square} (a : ZoneCut w z) (ei : i ≡ boundOf w .i) (ej : j ≡ boundOf w .j) (eb : b ≡ cellOf (boundOf w)) where
-  pub holding-fits : {y : Square} → y ≡ withBound i j b z → Tightens 1 y
-  holding-fits e = rw (e, ei, ej, eb) (tightens-fewer 1 3 _ (omega arith) (tightens-withBound (boundOf w) z (a .number) (a .zone)))
-
-  pub is-holding : {y : Square} → y ≡ withBound i j b z → tightened y ≡ holdingSquare w z
-  unfolding holdingSquare withWord
-  is-holding e = rw (e, ei, ej, eb)
-
-  pub bound-small : size b < 2 ^ 27
-  bound-small = let h = size-cellOf (boundOf w) (a .number) in rw eb (omega arith)
-
-  pub rest-fits : {y : Square} → y ≡ withBound j i (negated b) z → Tightens 1 y
-  rest-fits e = rw (e, ei, ej, eb) (tightens-fewer 1 3 _ (omega arith) (tightens-rest (boundOf w) z (a .number) (a .zone)))
-
-  pub is-rest : {y : Square} → y ≡ withBound j i (negated b) z → tightened y ≡ restSquare w z
-  unfolding restSquare
-  is-rest e = rw (e, ei, ej, eb)
-
 -- the successor S has the location of the node N and no larger value
 abbrev matching? : NodeEntry → NodeEntry → Bool
 matching? N S = eqb (S .location) (N .location) && leb (S .value) (N .value)
 
--- the checks of a part z of the node n, whose successor s stands at the place p
-module _ (k : Kept) (z : Square) (n s p : ℕ) where
-  pub not-above : s ≤ n → finding.PartNotAbove p ≡ partFinding k z n s p
+-- the checks of a part z of the node N numbered n, whose successor s stands at the place p
+module _ (k : Kept) (n : ℕ) (N : NodeEntry) (z : Square) (s p : ℕ) where
+  pub not-above : s ≤ n → finding.PartNotAbove p ≡ partFinding k n N z s p
   unfolding partFinding
   not-above h = rw (le-ltb n s h)
 
-  module _ (above : n < s) {N S : NodeEntry} (eN : N ≡ entryAt (k .nodes) n) (eS : S ≡ entryAt (k .nodes) s) where
-    pub mismatched : not (matching? N S) ≡ true → finding.PartMismatch p ≡ partFinding k z n s p
+  module _ (above : n < s) {S : NodeEntry} (e : S ≡ entryAt (k .nodes) s) where
+    pub mismatched : not (matching? N S) ≡ true → finding.PartMismatch p ≡ partFinding k n N z s p
     unfolding partFinding
-    mismatched e = let m : matching? N S ≡ false = not-true _ e in rw (lt-ltb n s above, ← eN, ← eS, m)
+    mismatched m = let un : matching? N S ≡ false = not-true _ m in rw (lt-ltb n s above, ← e, un)
 
-    module _ (e : not (matching? N S) ≡ false) where
+    module _ (m : not (matching? N S) ≡ false) where
       matched : matching? N S ≡ true
-      matched = not-false _ e
+      matched = not-false _ m
 
-      pub part-empty : empty? z ≡ true → finding.None ≡ partFinding k z n s p
+      pub part-empty : empty? z ≡ true → finding.None ≡ partFinding k n N z s p
       unfolding partFinding
-      part-empty h = rw (lt-ltb n s above, ← eN, ← eS, matched, h)
+      part-empty h = rw (lt-ltb n s above, ← e, matched, h)
 
       module _ (filled : empty? z ≡ false) {y : Square} (ey : y ≡ zoneAt (k .zones) s) where
-        pub part-inside : inside? z y ≡ true → finding.None ≡ partFinding k z n s p
+        pub part-inside : inside? z y ≡ true → finding.None ≡ partFinding k n N z s p
         unfolding partFinding
-        part-inside h = rw (lt-ltb n s above, ← eN, ← eS, matched, filled, ← ey, h)
+        part-inside h = rw (lt-ltb n s above, ← e, matched, filled, ← ey, h)
 
-        pub part-outside : inside? z y ≡ false → finding.PartNotInside p ≡ partFinding k z n s p
+        pub part-outside : inside? z y ≡ false → finding.PartNotInside p ≡ partFinding k n N z s p
         unfolding partFinding
-        part-outside h = rw (lt-ltb n s above, ← eN, ← eS, matched, filled, ← ey, h)
+        part-outside h = rw (lt-ltb n s above, ← e, matched, filled, ← ey, h)
 
--- the cut of the node n, whose word of kind D stands at the place `at`: y is the node's zone, z the part where the bound holds, s its successor
--- and f what they find
-module _ (words : List ℕ) (k : Kept) (n at : ℕ) {y z : Square} {s : ℕ} {f : Finding} (ey : y ≡ zoneAt (k .zones) n)
-    (ez : z ≡ holdingSquare (getD words at 0) y) (es : s ≡ numberOf (getD words (at + 1) 0)) (ef : f ≡ partFinding k z n s (at + 1)) where
-  pub first-found : (f ≡ finding.None → ⊥) → f ≡ cutFinding words k n at
+-- the cut of that node, whose word of kind D stands at the place `at`: y is the node's zone, z the part where the bound holds, s its successor and f
+-- what they find
+module _ (words : List ℕ) (k : Kept) (n : ℕ) (N : NodeEntry) (at : ℕ) {y z : Square} {s : ℕ} {f : Finding} (ey : y ≡ zoneAt (k .zones) n)
+    (ez : z ≡ holdingSquare (getD words at 0) y) (es : s ≡ numberOf (getD words (at + 1) 0)) (ef : f ≡ partFinding k n N z s (at + 1)) where
+  pub first-found : (f ≡ finding.None → ⊥) → f ≡ cutFinding words k n N at
   unfolding cutFinding
   first-found un = rw (← ey, ← ez, ← es, ← ef) (found-first f _ un)
 
   -- the same of the rest
   pub second-found : {r : Square} {t : ℕ} {g : Finding} → f ≡ finding.None → r ≡ restSquare (getD words at 0) y →
-      t ≡ numberOf (getD words (at + 2) 0) → g ≡ partFinding k r n t (at + 2) → g ≡ cutFinding words k n at
+      t ≡ numberOf (getD words (at + 2) 0) → g ≡ partFinding k n N r t (at + 2) → g ≡ cutFinding words k n N at
   unfolding cutFinding orElse
   second-found none er et eg = rw (← ey, ← ez, ← es, ← ef, none, ← er, ← et, ← eg)

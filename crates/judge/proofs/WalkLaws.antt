@@ -6,7 +6,7 @@ use mathlib.Core.List.{List}
 use native.Mathlib.Nat.{mul-le-mul-left, mul-lt-mul-of-pos-right}
 use native.Mathlib.Numerals.{add-one}
 use native.Mathlib.Omega.{arith}
-use borrow.Author.Tests.{eq-eqb, ne-eqb, le-leb, lt-leb}
+use borrow.Author.Tests.{not-true, not-false, eq-eqb, ne-eqb, le-leb, lt-leb}
 use lib.ListN.{length, getD}
 use Rattle.zone.specs.Words.{kind}
 use Rattle.zone.specs.Squares.{empty?, Tightens}
@@ -25,20 +25,12 @@ use Rattle.judge.specs.Reaching.{EdgesFit, waitedSquare, reachSquare}
 use Rattle.judge.specs.Findings.{orElse}
 use Rattle.judge.specs.Cutting.{cutFinding, CutAsked}
 use Rattle.judge.specs.Walk.{successorOutcome, successorsFrom, rowsFrom, rowsFinding, nodeFinding, nodesFrom, walked}
-use Rattle.judge.specs.Walk.{RowsInRange, NodeInRange, BodyInRange}
+use Rattle.judge.specs.Walk.{RowsInRange, RowsAsked, BodyAsked, NodeAsked}
 use Rattle.judge.specs.declared.findings.Finding.{Finding}
 use Rattle.judge.specs.declared.findings.Finding.the-variants as finding
 use Rattle.judge.specs.declared.walk.Outcome.{Outcome}
 use Rattle.judge.proofs.FindingLaws.{found-first}
 use Rattle.judge.proofs.ReachSizes.{waited-tightens}
-
-not-true : (b : Bool) → not b ≡ true → b ≡ false
-not-true true e = sym e
-not-true false e = refl
-
-not-false : (b : Bool) → not b ≡ false → b ≡ true
-not-false true e = refl
-not-false false e = sym e
 
 -- one of those that are left
 one-left : (m n : ℕ) → n < m → m - n ≡ suc (m - suc n)
@@ -122,44 +114,48 @@ module _ (words : List ℕ) (m : ModelKept) (k : Kept) where
 
     -- a node whose location is no target, cut or not
     module _ (un : getD (m .index .targets) (N .location) false ≡ false) where
-      pub node-cut : kind (getD words (N .place + 1) 0) ≡ tableNumber cut → cutFinding words k n (N .place + 1) ≡ nodeFinding words m k whole n
+      pub node-cut : kind (getD words (N .place + 1) 0) ≡ tableNumber cut → cutFinding words k n N (N .place + 1) ≡ nodeFinding words m k whole n
       unfolding nodeFinding
       node-cut q = let c = eq-eqb _ _ q in rw (← e, un, ← add-one (N .place), c)
 
-      pub node-uncut : (kind (getD words (N .place + 1) 0) ≡ tableNumber cut → ⊥) → rowsFinding words m k n ≡ nodeFinding words m k whole n
+      pub node-uncut : (kind (getD words (N .place + 1) 0) ≡ tableNumber cut → ⊥) → rowsFinding words m k n N ≡ nodeFinding words m k whole n
       unfolding nodeFinding
       node-uncut q = let c = ne-eqb _ _ q in rw (← e, un, ← add-one (N .place), c)
 
+  pub body-asked : (n : ℕ) {N : NodeEntry} → N ≡ entryAt (k .nodes) n → NodeAsked words m k n →
+      getD (m .index .targets) (N .location) false ≡ false → BodyAsked words m k n N
+  body-asked n e asked un = rw e (asked .body (rw e at un))
+
   -- the words behind the value of a node
-  module _ (n : ℕ) {N : NodeEntry} (e : N ≡ entryAt (k .nodes) n) (b : BodyInRange words m k n) where
+  module _ (n : ℕ) {N : NodeEntry} (b : BodyAsked words m k n N) where
     pub behind-there : N .place + 1 < length words
-    behind-there = rw (add-one (N .place), e) (b .there)
+    behind-there = rw (add-one (N .place)) (b .there)
 
     pub cut-there : kind (getD words (N .place + 1) 0) ≡ tableNumber cut → CutAsked words k n (N .place + 1)
-    cut-there q = let c = eq-eqb _ _ q in rw (add-one (N .place), e) (b .parts (rw (add-one (N .place), e) at c))
+    cut-there q = let c = eq-eqb _ _ q in rw (add-one (N .place)) (b .parts (rw (add-one (N .place)) at c))
 
-    pub rows-there : (kind (getD words (N .place + 1) 0) ≡ tableNumber cut → ⊥) → NodeInRange words m k n
-    rows-there q = let c = ne-eqb _ _ q in b .rows (rw (add-one (N .place), e) at c)
+    pub rows-there : (kind (getD words (N .place + 1) 0) ≡ tableNumber cut → ⊥) → RowsAsked words m k n N
+    rows-there q = let c = ne-eqb _ _ q in b .rows (rw (add-one (N .place)) at c)
 
   -- the rows of a node
   module _
-      (n : ℕ) {N : NodeEntry} (e : N ≡ entryAt (k .nodes) n) {first last : ℕ} (ef : first ≡ getD (m .index .actions) (N .location) 0)
+      (n : ℕ) (N : NodeEntry) {first last : ℕ} (ef : first ≡ getD (m .index .actions) (N .location) 0)
       (el : last ≡ getD (m .index .actions) (N .location + 1) 0) where
-    pub no-rows : first ≡ last → finding.None ≡ rowsFinding words m k n
+    pub no-rows : first ≡ last → finding.None ≡ rowsFinding words m k n N
     unfolding rowsFinding rowsFrom
     no-rows q =
         let none : getD (m .index .actions) (N .location + 1) 0 - getD (m .index .actions) (N .location) 0 ≡ 0 = omega arith in
-        rw (← e, none)
+        rw none
 
-    pub node-rows : {y i waited : Square} → NodeInRange words m k n → y ≡ zoneAt (k .zones) n → i ≡ zoneAt (m .zones) (N .location) →
-        waited ≡ waitedSquare y i → AtRow (rowsFinding words m k n) waited (N .value) last finding.None (N .place + 1) first
+    pub node-rows : {y i waited : Square} → RowsAsked words m k n N → y ≡ zoneAt (k .zones) n → i ≡ zoneAt (m .zones) (N .location) →
+        waited ≡ waitedSquare y i → AtRow (rowsFinding words m k n N) waited (N .value) last finding.None (N .place + 1) first
     unfolding rowsFinding
-    node-rows fit ey ei ew = rw (add-one (N .place), ew, ey, ei, ef, el) (record {
+    node-rows asked ey ei ew = rw (add-one (N .place), ew, ey, ei, ef, el) (record {
       none = refl;
-      tightens = waited-tightens (fit .zone) (rw (← e) at (fit .invariant));
-      limit = rw (← e) at (fit .actions);
-      fits = rw (← e) at (fit .rows);
-      onward = rw (← e);
+      tightens = waited-tightens (asked .zone) (asked .invariant);
+      limit = asked .actions;
+      fits = asked .rows;
+      onward = refl;
     })
 
   module _ {goal : Finding} {waited : Square} {value last : ℕ} {f : Finding} {at a : ℕ} (i : AtRow goal waited value last f at a) where

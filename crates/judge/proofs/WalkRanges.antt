@@ -28,7 +28,7 @@ use Rattle.table.specs.Scan.{rowSize}
 use Rattle.table.proofs.Shape.{RowStands, RowsStand, CutStands, BodyStands, NodeShaped, Shaped}
 use Rattle.judge.specs.Reaching.{enabledKept}
 use Rattle.judge.specs.Cutting.{CutAsked}
-use Rattle.judge.specs.Walk.{RowsInRange, NodeInRange, BodyInRange, WalkAsked}
+use Rattle.judge.specs.Walk.{RowsInRange, StoresAsked, RowsAsked, NodeAsked, WalkAsked}
 use Rattle.judge.proofs.RowLaws.{front, behind, node-at, shaped-at, ActionIs, actions-fit, actions-at, actions-count, edges-at}
 use Rattle.judge.proofs.LandingLaws.{enabled-length, enabled-invariant, enabled-at}
 use Rattle.judge.proofs.RowReach.{enabled-tightens}
@@ -85,52 +85,65 @@ module _ (M : Model) (words : List ℕ) (m : ModelKept) (k : Kept) (x : Indexed 
     abbrev ws : List ℕ
     ws = drop (suc (N .place)) words
 
-    node-in-range : RowsStand (length (W .nodes)) (L .actions) ws → NodeInRange words e k n
-    node-in-range stands =
-        let next : N .location + 1 ≡ suc (N .location) = omega arith in
-        let rows : RowsInRange words e k (length (L .actions)) (getD (m .index .actions) (N .location) 0) (suc (N .place)) =
-        rows-in-range (length (W .nodes)) (L .actions) _ (suc (N .place)) _ (actions-at M m x good formed (N .location) (g .exists)) refl stands in
-        record {
-          zone = rw (i .zone) (tightens-fewer 2 3 _ (omega arith) (tightens-bounds (N .zone) (g .zone)));
-          invariant =
-              rw (i .location, enabled-invariant m (N .location) in-slots, location-is .invariant)
-              (tightens-fewer 2 3 _ (omega arith) (tightens-bounds (L .invariant) (good .invariants (N .location))));
-          place = rw (i .place) (omega (arith, g .place));
-          actions = rw (i .location, next) (location-is .limit);
-          rows = rw (i .location, i .place, actions-count M m x good formed (N .location) (g .exists)) rows;
-        }
+    module _ (rooms : StoresFit (k .nodes) (k .zones)) (few : n < 64) where
+      stores-asked : StoresAsked words e k n (entryAt (k .nodes) n)
+      stores-asked = record {
+        model = record { edges = room .edges; zones = rw (enabled-length m) (room .zones) };
+        table = rooms;
+        edges = record { at = x .edgeLimits };
+        number = few;
+        location = rw (i .location) in-slots;
+      }
 
-    cut-asked : StoresFit (k .nodes) (k .zones) → n < 64 → CutStands (length (W .nodes)) L ws → CutAsked words k n (suc (N .place))
-    cut-asked rooms few c =
-        let size : length ws ≡ length words - suc (N .place) = length-drop (suc (N .place)) words in
-        let b = c .bound in
-        record {
-          stores = rooms;
-          node = few;
-          there = omega (arith, size, c .there);
-          zone = rw (front (suc (N .place)) words ws refl) (record {
-            first = b .first;
-            second = b .second;
-            number = b .small;
-            zone = rw (i .zone) (tightens-bounds (N .zone) (g .zone));
-          });
-        }
+      rows-asked : RowsStand (length (W .nodes)) (L .actions) ws → RowsAsked words e k n (entryAt (k .nodes) n)
+      rows-asked stands =
+          let next : N .location + 1 ≡ suc (N .location) = omega arith in
+          let rows : RowsInRange words e k (length (L .actions)) (getD (m .index .actions) (N .location) 0) (suc (N .place)) =
+          rows-in-range (length (W .nodes)) (L .actions) _ (suc (N .place)) _ (actions-at M m x good formed (N .location) (g .exists)) refl stands in
+          record {
+            stores = stores-asked;
+            zone = rw (i .zone) (tightens-fewer 2 3 _ (omega arith) (tightens-bounds (N .zone) (g .zone)));
+            invariant =
+                rw (i .location, enabled-invariant m (N .location) in-slots, location-is .invariant)
+                (tightens-fewer 2 3 _ (omega arith) (tightens-bounds (L .invariant) (good .invariants (N .location))));
+            place = rw (i .place) (omega (arith, g .place));
+            actions = rw (i .location, next) (location-is .limit);
+            rows = rw (i .location, i .place, actions-count M m x good formed (N .location) (g .exists)) rows;
+          }
 
-    body-in-range : StoresFit (k .nodes) (k .zones) → n < 64 → getD (m .index .targets) (entryAt (k .nodes) n .location) false ≡ false →
-        BodyInRange words e k n
-    unfolding rowActions BodyStands
-    body-in-range rooms few un =
-        let other : L .target ≡ false = sym (location-is .target) ∙ (rw (i .location) at un) in
-        let here = front (suc (N .place)) words ws refl in
-        record {
-          there = rw (i .place) (g .place);
-          parts = λ c.
-              let cuts : isTable cut (getD ws 0 0) ≡ true = rw (i .place, here) at c in
-              rw (i .place) (cut-asked rooms few (rw cuts at (g .stands)));
-          rows = λ c.
-              let uncut : isTable cut (getD ws 0 0) ≡ false = rw (i .place, here) at c in
-              node-in-range (rw (uncut, other) at (g .stands));
-        }
+      cut-asked : CutStands (length (W .nodes)) L ws → CutAsked words k n (suc (N .place))
+      cut-asked c =
+          let size : length ws ≡ length words - suc (N .place) = length-drop (suc (N .place)) words in
+          let b = c .bound in
+          record {
+            stores = rooms;
+            node = few;
+            there = omega (arith, size, c .there);
+            cuts = rw (front (suc (N .place)) words ws refl) (record {
+              first = b .first;
+              second = b .second;
+              number = b .small;
+              zone = rw (i .zone) (tightens-bounds (N .zone) (g .zone));
+            });
+          }
+
+      node-asked : NodeAsked words e k n
+      unfolding rowActions BodyStands
+      node-asked = record {
+        stores = stores-asked;
+        body = λ un.
+            let other : L .target ≡ false = sym (location-is .target) ∙ (rw (i .location) at un) in
+            let here = front (suc (N .place)) words ws refl in
+            record {
+              there = rw (i .place) (g .place);
+              parts = λ c.
+                  let cuts : isTable cut (getD ws 0 0) ≡ true = rw (i .place, here) at c in
+                  rw (i .place) (cut-asked (rw cuts at (g .stands)));
+              rows = λ c.
+                  let uncut : isTable cut (getD ws 0 0) ≡ false = rw (i .place, here) at c in
+                  rows-asked (rw (uncut, other) at (g .stands));
+            };
+      }
 
 module _ (M : Model) (words : List ℕ) (m : ModelKept) (t : TableRead) (k : Kept) (x : Indexed M m) (good : GoodModel M) (formed : WellFormed M)
     (i : TableIndexed (tableOf M words) t k) (sh : Shaped M words (tableOf M words)) (room : ModelStoresFit (m .edges) (m .zones))
@@ -138,20 +151,9 @@ module _ (M : Model) (words : List ℕ) (m : ModelKept) (t : TableRead) (k : Kep
   pub walk-asked : WalkAsked words (enabledKept m) k (t .count)
   walk-asked = record {
     count = i .limit;
-    nodes = λ n l. record {
-      stores = record {
-        model = record { edges = room .edges; zones = rw (enabled-length m) (room .zones) };
-        table = rooms;
-        edges = record { at = x .edgeLimits };
-      };
-      number = omega (arith, l, i .limit);
-      location =
-          rw (node-at i n (below n l) .location)
-          (in-slots M words m k x good formed room W n (nodeAt W n) (node-at i n (below n l)) (shaped-at sh n (below n l)));
-      node =
-          body-in-range M words m k x good formed room W n (nodeAt W n) (node-at i n (below n l)) (shaped-at sh n (below n l)) rooms
-          (omega (arith, l, i .limit));
-    };
+    nodes = λ n l.
+        node-asked M words m k x good formed room W n (nodeAt W n) (node-at i n (below n l)) (shaped-at sh n (below n l)) rooms
+        (omega (arith, l, i .limit));
   }
     where
       W : Table

@@ -33,6 +33,7 @@ use Rattle.table.specs.Table.{successorsOf, rowsOf, cutOf, rowActions, bodyOf, 
 use Rattle.table.specs.Scan.{edgesAt, rowSize}
 use Rattle.table.specs.Index.{Kept}
 use Rattle.table.specs.Indexed.{NodeIs, TableIndexed}
+use Rattle.table.specs.declared.nodes.NodeEntry.{NodeEntry}
 use Rattle.table.specs.declared.read.TableRead.{TableRead}
 use Rattle.table.proofs.Shape.{RowStands, RowsStand, CutStands, BodyStands, NodeShaped, Shaped}
 use Rattle.acceptance.specs.Acceptance.{Reach, HasLocation, HoldsReach, worth, rowSum, Matches}
@@ -100,6 +101,10 @@ record Reached (M : Model) (N : Node) (A : Action) (z : Square) : Type 0 where
       Inside (ResetOf mask (Reach M N A)) (within S)
   onward-fail : (mask : ℕ) (S : Zone) → GoodZone S → (empty? z || inside? (resetSquare mask z) (withBounds S universe)) ≡ false →
       Inside (ResetOf mask (Reach M N A)) (within S) → ⊥
+
+-- what is kept of a node
+abbrev entryFor : Node → NodeEntry
+entryFor N = record { location = N .location; value = N .value; place = N .place }
 
 -- the row at the front of the words, and those behind it
 rows-split : (A : Action) (As : List Action) (at : ℕ) (ws : List ℕ) →
@@ -270,11 +275,11 @@ module _ (M : Model) (words : List ℕ) (m : ModelKept) (t : TableRead) (k : Kep
 
     part-found :
         (P : Region) (z : Square) → Decides P z → (s p : ℕ) → s < length (W .nodes) →
-        Finds (partChecks W n N P (record { node = s; place = p })) (partFinding k z n s p)
+        Finds (partChecks W n N P (record { node = s; place = p })) (partFinding k n (entryFor N) z s p)
     unfolding partChecks partFinding findingAnswer
     part-found P z d s p l =
         let S : Zone = nodeAt W s .zone in
-        rw (y .location, y .value, node-at i s l .location, node-at i s l .value, node-at i s l .zone)
+        rw (node-at i s l .location, node-at i s l .value, node-at i s l .zone)
         (decides (ltb n s) (finding.PartNotAbove p) _ (ltb-true n s) (λ b h. omega (arith, ltb-false n s b)) refl
         (decides (matches? s) (finding.PartMismatch p) _ (matches-yes s p) (matches-no s p) refl
         (decides (empty? z || inside? z (withBounds S universe)) (finding.PartNotInside p) _ (d .pass S (shaped-at sh s l .zone))
@@ -282,7 +287,7 @@ module _ (M : Model) (words : List ℕ) (m : ModelKept) (t : TableRead) (k : Kep
 
     -- the words ws of the cut stand at the place `at`
     cut-found : (at : ℕ) (ws : List ℕ) → drop at words ≡ ws → CutStands (length (W .nodes)) (locationAt M (N .location)) ws →
-        Finds (cutChecks W n N (cutOf at ws)) (cutFinding words k n at)
+        Finds (cutChecks W n N (cutOf at ws)) (cutFinding words k n (entryFor N) at)
     unfolding cutChecks cutOf cutFinding
     cut-found at ws e c =
         rw (front at words ws e, beyond 1 at words ws e, beyond 2 at words ws e, y .zone)
@@ -323,7 +328,7 @@ module _ (M : Model) (words : List ℕ) (m : ModelKept) (t : TableRead) (k : Kep
           Finds
           (bodyChecks M W n N (L .actions)
           (cond c (cutBody (cutOf (suc (N .place)) ws)) (rowsBody (rowsOf (rowActions L) (suc (N .place)) ws))))
-          (cond c (cutFinding words k n (suc (N .place)))
+          (cond c (cutFinding words k n (entryFor N) (suc (N .place)))
           (rowsFrom words enabled k (waited N g) (N .value) (length (L .actions)) (getD (m .index .actions) (N .location) 0) (suc (N .place))))
       body true e s = cut-found n N y g (suc (N .place)) ws refl s
       body false e s =
@@ -335,7 +340,7 @@ module _ (M : Model) (words : List ℕ) (m : ModelKept) (t : TableRead) (k : Kep
       by : (b : Bool) → L .target ≡ b →
           Finds (cond b (check 15 (N .place) (N .value ≡ W .whole) ∷ []) (bodyChecks M W n N (L .actions) (N .body)))
           (cond b (cond (eqb (N .value) (W .whole)) finding.None (finding.BadTargetValue (N .place)))
-          (cond (isTable cut (getD ws 0 0)) (cutFinding words k n (suc (N .place)))
+          (cond (isTable cut (getD ws 0 0)) (cutFinding words k n (entryFor N) (suc (N .place)))
           (rowsFrom words enabled k (waited N g) (N .value) (length (L .actions)) (getD (m .index .actions) (N .location) 0) (suc (N .place)))))
       by true e = decides (eqb (N .value) (W .whole)) _ _ (eqb-true (N .value) (W .whole)) (eqb-false (N .value) (W .whole)) refl none-found
       by false e = found-as (body (isTable cut (getD ws 0 0)) e (g .stands)) (ap (bodyChecks M W n N (L .actions)) (g .body)) refl

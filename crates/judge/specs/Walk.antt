@@ -59,10 +59,9 @@ module _ (words : List ℕ) (m : ModelKept) (k : TableKept) where
       (orElse (successorsFrom reach (empty? reach) (m .index .denominator * value) at edges (getD (m .index .edges) a 0) at 0)
       (rowsFrom waited value n (suc a) (at + edges)))
 
-  -- the rows of the node n
-  unfoldable pub rowsFinding : ℕ → Finding
-  rowsFinding n =
-      let N : NodeEntry = entryAt (k .nodes) n in
+  -- the rows of the node N numbered n
+  unfoldable pub rowsFinding : ℕ → NodeEntry → Finding
+  rowsFinding n N =
       let l : ℕ = N .location in
       let first : ℕ = getD (m .index .actions) l 0 in
       rowsFrom (waitedSquare (zoneAt (k .zones) n) (zoneAt (m .zones) l)) (N .value) (getD (m .index .actions) (l + 1) 0 - first) first
@@ -72,9 +71,10 @@ module _ (words : List ℕ) (m : ModelKept) (k : TableKept) where
   unfoldable pub nodeFinding : ℕ → ℕ → Finding
   nodeFinding whole n =
       let N : NodeEntry = entryAt (k .nodes) n in
+      let behind : ℕ = suc (N .place) in
       cond (getD (m .index .targets) (N .location) false)
       (cond (eqb (N .value) whole) finding.None (finding.BadTargetValue (N .place)))
-      (cond (isTable cut (getD words (suc (N .place)) 0)) (cutFinding words k n (suc (N .place))) (rowsFinding n))
+      (cond (isTable cut (getD words behind 0)) (cutFinding words k n N behind) (rowsFinding n N))
 
   -- so many nodes from number n on
   unfoldable pub nodesFrom : ℕ → ℕ → ℕ → Finding
@@ -93,39 +93,36 @@ module _ (words : List ℕ) (m : ModelKept) (k : TableKept) where
       let size : ℕ = rowSize (isTable blocked (getD words at 0)) (edgesAt (m .index) a) in
       Tightens 1 (zoneAt (m .zones) (guardsAt + a)) × (at < length words) × (at + size ≤ length words) × RowsInRange n (suc a) (at + size)
 
-  -- the rows of the node n
-  pub record NodeInRange (n : ℕ) : Type 0 where
-    pub zone : Tightens 2 (zoneAt (k .zones) n)
-    pub invariant : Tightens 2 (zoneAt (m .zones) (entryAt (k .nodes) n .location))
-    pub place : entryAt (k .nodes) n .place < length words
-    pub actions : getD (m .index .actions) (entryAt (k .nodes) n .location + 1) 0 ≤ 32
-    pub rows :
-        RowsInRange
-        (getD (m .index .actions) (entryAt (k .nodes) n .location + 1) 0 - getD (m .index .actions) (entryAt (k .nodes) n .location) 0)
-        (getD (m .index .actions) (entryAt (k .nodes) n .location) 0) (suc (entryAt (k .nodes) n .place))
-
-  pub record StoresAsked : Type 0 where
+  -- the stores, and where a node, whose entry is N, stands in them
+  pub record StoresAsked (n : ℕ) (N : NodeEntry) : Type 0 where
     pub model : ModelStoresFit (m .edges) (m .zones)
     pub table : TableStoresFit (k .nodes) (k .zones)
     pub edges : EdgesFit (m .index)
-
-  pub record RowsAsked (n : ℕ) : Type 0 where
-    pub stores : StoresAsked
     pub number : n < 64
-    pub location : entryAt (k .nodes) n .location < 16
-    pub node : NodeInRange n
+    pub location : N .location < 16
 
-  -- behind the value of the node n a word stands, where its location is no target: that of its cut, or not
-  pub record BodyInRange (n : ℕ) : Type 0 where
-    pub there : suc (entryAt (k .nodes) n .place) < length words
-    pub parts : isTable cut (getD words (suc (entryAt (k .nodes) n .place)) 0) ≡ true → CutAsked words k n (suc (entryAt (k .nodes) n .place))
-    pub rows : isTable cut (getD words (suc (entryAt (k .nodes) n .place)) 0) ≡ false → NodeInRange n
+  -- its rows
+  pub record RowsAsked (n : ℕ) (N : NodeEntry) : Type 0 where
+    pub stores : StoresAsked n N
+    pub zone : Tightens 2 (zoneAt (k .zones) n)
+    pub invariant : Tightens 2 (zoneAt (m .zones) (N .location))
+    pub place : suc (N .place) ≤ length words
+    pub actions : getD (m .index .actions) (N .location + 1) 0 ≤ 32
+    pub rows :
+        let l : ℕ = N .location in
+        let first : ℕ = getD (m .index .actions) l 0 in
+        RowsInRange (getD (m .index .actions) (l + 1) 0 - first) first (suc (N .place))
 
+  -- behind its value a word stands, that of its cut or not
+  pub record BodyAsked (n : ℕ) (N : NodeEntry) : Type 0 where
+    pub there : suc (N .place) < length words
+    pub parts : isTable cut (getD words (suc (N .place)) 0) ≡ true → CutAsked words k n (suc (N .place))
+    pub rows : isTable cut (getD words (suc (N .place)) 0) ≡ false → RowsAsked n N
+
+  -- where its location is no target
   pub record NodeAsked (n : ℕ) : Type 0 where
-    pub stores : StoresAsked
-    pub number : n < 64
-    pub location : entryAt (k .nodes) n .location < 16
-    pub node : getD (m .index .targets) (entryAt (k .nodes) n .location) false ≡ false → BodyInRange n
+    pub stores : StoresAsked n (entryAt (k .nodes) n)
+    pub body : getD (m .index .targets) (entryAt (k .nodes) n .location) false ≡ false → BodyAsked n (entryAt (k .nodes) n)
 
   -- so many nodes
   pub record WalkAsked (c : ℕ) : Type 0 where

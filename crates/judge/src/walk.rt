@@ -82,8 +82,8 @@ pub(crate) fn successor(
     }
 }
 
-// Judges the rows of a node, row by row and successor by successor. The first check that fails leaves both loops, with its place. `guards` has
-// the zones of the model, with what each action asks in place of its guard (`enable`).
+// Judges the rows of a node, numbered n, row by row and successor by successor. The first check that fails leaves both loops, with its place.
+// `guards` has the zones of the model, with what each action asks in place of its guard (`enable`).
 pub(crate) fn rows_finding(
     list: &[u32],
     index: Index,
@@ -92,11 +92,11 @@ pub(crate) fn rows_finding(
     nodes: &[usize],
     zones: &[i32],
     n: usize,
+    node: NodeEntry,
 ) -> Finding
-    requires { ⌜ RowsAsked (now list) (keepModel index (now edges) (now guards)) (keepTable (now nodes) (now zones)) n ⌝ }
-    ensures { λ r. ⌜ r ≡ rowsFinding (now (list .entry)) (keepModel index (now (edges .entry)) (now (guards .entry))) (keepTable (now (nodes .entry)) (now (zones .entry))) n ⌝ }
+    requires { ⌜ RowsAsked (now list) (keepModel index (now edges) (now guards)) (keepTable (now nodes) (now zones)) n node ⌝ }
+    ensures { λ r. ⌜ r ≡ rowsFinding (now (list .entry)) (keepModel index (now (edges .entry)) (now (guards .entry))) (keepTable (now (nodes .entry)) (now (zones .entry))) n node ⌝ }
 {
-    let node = NodeEntry::load(nodes, n);
     let l = node.location as usize;
     let first_action = index.actions[l] as usize;
     let end_action = index.actions[l + 1] as usize;
@@ -163,9 +163,9 @@ pub(crate) fn walk_node(
     }
     let behind = node.place + 1;
     if words::kind_of(list[behind]) == kinds::CUT {
-        return cutting::cut_finding(list, nodes, zones, n, behind);
+        return cutting::cut_finding(list, nodes, zones, n, node, behind);
     }
-    rows_finding(list, index, edges, guards, nodes, zones, n)
+    rows_finding(list, index, edges, guards, nodes, zones, n, node)
 }
 
 // Judges node by node.

@@ -11,7 +11,7 @@ pub mod WordLaws
 pub mod Sizes
 pub mod SquareTables
 pub mod Regions
-pub mod Parts
+pub mod PartLaws
 pub mod Attained
 pub mod CheckLaws
 pub mod ReadLaws

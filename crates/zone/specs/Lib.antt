@@ -10,3 +10,4 @@ pub mod Cells
 pub mod Squares
 pub mod Reading
 pub mod Stores
+pub mod Parts

@@ -70,7 +70,7 @@ impl Bound {
 
     // Of a bound of clock i minus clock j, the bound of clock j minus clock i that holds exactly where this one does not: at most d becomes below
     // -d, and below d becomes at most -d.
-    pub fn negated(self) -> Bound
+    pub(crate) fn negated(self) -> Bound
         requires { ⌜ size self < 2 ^ 27 ⌝ }
         ensures { λ r. ⌜ r ≡ negated self ⌝ }
     {

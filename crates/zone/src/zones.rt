@@ -99,7 +99,7 @@ impl Zone {
     }
 
     // The valuations where a bound of clock i minus clock j holds as well.
-    pub fn with_bound(self, i: usize, j: usize, bound: Bound) -> Zone
+    pub(crate) fn with_bound(self, i: usize, j: usize, bound: Bound) -> Zone
         requires { ⌜ (i < 5) × (j < 5) ⌝ }
         ensures { λ r. ⌜ r ≡ withBound i j bound self ⌝ }
     {

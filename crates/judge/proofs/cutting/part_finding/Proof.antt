@@ -7,25 +7,22 @@ use Rattle.judge.proofs.cutting.part_finding.Statement.{statement}
 use Rattle.judge.proofs.cutting.part_finding.Tie as tie
 
 returns : tie.Need-returns
-returns c = not-above _ _ _ _ _ (omega (arith, c .if1 .taken))
+returns c = not-above _ _ _ _ _ _ (omega (arith, c .if1 .taken))
 
--- both entries
-abbrev loaded : tie.After-struct-known4 → tie.After-load2
+-- the successor's entry
+abbrev loaded : tie.After-struct-known4 → tie.After-load
 loaded c = c .before .before .before .before
 
 returns-2 : tie.Need-returns-2
 returns-2 c =
     let s = loaded (c .before) in
-    let n = s .before in
-    mismatched _ _ _ _ _ (n .before .if1 .left) (n .load .ensures) (s .load2 .ensures) (c .if2 .taken)
+    mismatched _ _ _ _ _ _ (s .before .if1 .left) (s .load .ensures) (c .if2 .taken)
 
 returns-3 : tie.Need-returns-3
 returns-3 c =
     let e = c .before in
     let s = loaded (e .before .before) in
-    let n = s .before in
-    part-empty _ _ _ _ _ (n .before .if1 .left) (n .load .ensures) (s .load2 .ensures) (e .before .if2 .left)
-    (sym (e .is-empty .ensures) ∙ c .if3 .taken)
+    part-empty _ _ _ _ _ _ (s .before .if1 .left) (s .load .ensures) (e .before .if2 .left) (sym (e .is-empty .ensures) ∙ c .if3 .taken)
 
 returns-4 : tie.Need-returns-4
 returns-4 c =
@@ -33,9 +30,8 @@ returns-4 c =
     let z = i .before in
     let e = z .before .before in
     let s = loaded (e .before .before) in
-    let n = s .before in
-    part-inside _ _ _ _ _ (n .before .if1 .left) (n .load .ensures) (s .load2 .ensures) (e .before .if2 .left)
-    (sym (e .is-empty .ensures) ∙ z .before .if3 .left) (z .load3 .ensures) (sym (i .inside .ensures) ∙ c .if4 .taken)
+    part-inside _ _ _ _ _ _ (s .before .if1 .left) (s .load .ensures) (e .before .if2 .left) (sym (e .is-empty .ensures) ∙ z .before .if3 .left)
+    (z .load2 .ensures) (sym (i .inside .ensures) ∙ c .if4 .taken)
 
 returns-5 : tie.Need-returns-5
 returns-5 c =
@@ -43,12 +39,11 @@ returns-5 c =
     let z = i .before in
     let e = z .before .before in
     let s = loaded (e .before .before) in
-    let n = s .before in
-    part-outside _ _ _ _ _ (n .before .if1 .left) (n .load .ensures) (s .load2 .ensures) (e .before .if2 .left)
-    (sym (e .is-empty .ensures) ∙ z .before .if3 .left) (z .load3 .ensures) (sym (i .inside .ensures) ∙ c .if4 .left)
+    part-outside _ _ _ _ _ _ (s .before .if1 .left) (s .load .ensures) (e .before .if2 .left) (sym (e .is-empty .ensures) ∙ z .before .if3 .left)
+    (z .load2 .ensures) (sym (i .inside .ensures) ∙ c .if4 .left)
 
 pub part-finding-spec : {M : Type 1} → statement M
 part-finding-spec =
     tie.close
-    (tie.spec returns (λ c κs. search needs) (λ c κs. search needs) returns-2 (λ c κs. search needs) returns-3 (λ c κs. search needs)
-    (λ c κs. search needs) returns-4 returns-5)
+    (tie.spec returns (λ c κs. search needs) returns-2 (λ c κs. search needs) returns-3 (λ c κs. search needs) (λ c κs. search needs)
+    returns-4 returns-5)

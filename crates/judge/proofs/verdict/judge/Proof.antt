@@ -14,6 +14,7 @@ use Rattle.judge.specs.Reaching.{enabledKept}
 use Rattle.judge.specs.Walk.{walked, WalkAsked}
 use Rattle.judge.specs.Findings.{findingAnswer}
 use Rattle.judge.specs.Deciding.{HandsOn}
+use Rattle.judge.proofs.FindingLaws.{found}
 use Rattle.judge.proofs.Answering.{
   startAt,
   ModelAccepted,
@@ -152,7 +153,7 @@ returns-3 c =
     with-demands _ _ _
     (node-refused _ _ _ _ (model-accepted (told g)) (list (read (told g))) _ _ _ (listed g .index-table .ensures .1 .1) (g .enum-told2 .given .1) _
     (subst (λ f. HandsOn (findingAnswer f) (verdictAnswer (c .node-refused .result))) (walks w) (c .node-refused .ensures))
-    (λ q. miss (1 ∷ 2 ∷ 3 ∷ 4 ∷ 5 ∷ 6 ∷ 7 ∷ 8 ∷ []) 0 tt (rw (walks w ∙ q) at (c .before .match3 .keys2))))
+    (λ q. miss found 0 tt (rw (walks w ∙ q) at (c .before .match3 .keys2))))
 
 load-requires : tie.Need-load-requires
 load-requires c κs =

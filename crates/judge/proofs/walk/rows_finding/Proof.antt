@@ -2,7 +2,6 @@
 use Prim.Native.Nat.{_+_, _*_, _≤_, _<_, _-_, _^_}
 use mathlib.Core.Path.{refl, sym, _∙_}
 use mathlib.Core.Logic.{⊎-elim}
-use mathlib.Core.List.{[], _∷_}
 use native.Mathlib.Omega.{arith}
 use borrow.Author.Tests.{eqb-true, eqb-false}
 use borrow.Author.Needs.{needs}
@@ -13,7 +12,8 @@ use Rattle.model.specs.Scan.{zoneCount}
 use Rattle.model.specs.Index.{Kept as ModelKept, keep as keepModel}
 use Rattle.table.specs.Nodes.{nodeCount}
 use Rattle.table.specs.Index.{Kept as TableKept, keep as keepTable}
-use Rattle.judge.specs.Walk.{rowsFinding, NodeInRange}
+use Rattle.judge.specs.Walk.{rowsFinding}
+use Rattle.judge.proofs.FindingLaws.{found}
 use Rattle.judge.proofs.WalkLaws.{product-small, AtRow, ReachAt, AtSuccessor, no-rows, node-rows}
 use Rattle.judge.proofs.WalkLaws.{rows-end, row-asked, row-place, row-not-blocked, row-blocked, row-successors}
 use Rattle.judge.proofs.WalkLaws.{successor-place, successor-found, successor-next, sum-large, row-end}
@@ -21,32 +21,29 @@ use Rattle.judge.proofs.walk.rows_finding.Statement.{statement}
 use Rattle.judge.proofs.walk.rows_finding.Tie as tie
 
 abbrev Inv-loop : tie.InvT-loop
-Inv-loop list edges guards nodes zones n index node l first-action stop waited f₀ at₀ a reach empty blocked limit first sum₀ e₀ end f at sum e =
+Inv-loop list edges guards nodes zones n node index l first-action stop waited f₀ at₀ a reach empty blocked limit first sum₀ e₀ end f at sum e =
     let m : ModelKept = keepModel index edges guards in
     let k : TableKept = keepTable nodes zones in
-    AtSuccessor list m k (rowsFinding list m k n) waited (node .value) stop a reach empty limit first end f at sum e
+    AtSuccessor list m k (rowsFinding list m k n node) waited (node .value) stop a reach empty limit first end f at sum e
 
 abbrev μ-loop : tie.MeasureT-loop
-μ-loop list edges guards nodes zones n index node l first-action stop waited f₀ at₀ a reach empty blocked limit first sum₀ e₀ end f at sum e = end - e
+μ-loop list edges guards nodes zones n node index l first-action stop waited f₀ at₀ a reach empty blocked limit first sum₀ e₀ end f at sum e = end - e
 
 abbrev Inv-rows : tie.InvT-rows
-Inv-rows list edges guards nodes zones n index node l first-action stop waited f₀ at₀ a₀ f at a =
+Inv-rows list edges guards nodes zones n node index l first-action stop waited f₀ at₀ a₀ f at a =
     let m : ModelKept = keepModel index edges guards in
     let k : TableKept = keepTable nodes zones in
-    AtRow list m k (rowsFinding list m k n) waited (node .value) stop f at a
+    AtRow list m k (rowsFinding list m k n node) waited (node .value) stop f at a
 
 abbrev μ-rows : tie.MeasureT-rows
-μ-rows list edges guards nodes zones n index node l first-action stop waited f₀ at₀ a₀ f at a = stop - a
+μ-rows list edges guards nodes zones n node index l first-action stop waited f₀ at₀ a₀ f at a = stop - a
 
--- ---- the node, and the turns of the loops: at a row, at a successor
+-- ---- the turns of the loops: at a row, at a successor
 abbrev Start : Type 0
 Start = tie.Start Inv-loop μ-loop Inv-rows μ-rows
 
-abbrev Loaded : Type 0
-Loaded = tie.After-load Inv-loop μ-loop Inv-rows μ-rows
-
-abbrev Other : Type 0
-Other = tie.After-struct-known Inv-loop μ-loop Inv-rows μ-rows
+abbrev Begun : Type 0
+Begun = tie.After-struct-known Inv-loop μ-loop Inv-rows μ-rows
 
 abbrev RowTurn : Type 0
 RowTurn = tie.In-rows Inv-loop μ-loop Inv-rows μ-rows
@@ -54,14 +51,11 @@ RowTurn = tie.In-rows Inv-loop μ-loop Inv-rows μ-rows
 abbrev SuccessorTurn : Type 0
 SuccessorTurn = tie.In-loop Inv-loop μ-loop Inv-rows μ-rows
 
-abbrev start : Loaded → Start
+abbrev start : Begun → Start
 start c = c .before .before .before .before
 
-abbrev loaded : Other → Loaded
-loaded c = c .before
-
-abbrev other : RowTurn → Other
-other c = c .before .before .before .before .before .before .before .before .before
+abbrev begun : RowTurn → Begun
+begun c = c .before .before .before .before .before .before .before .before .before
 
 abbrev rowTurn : SuccessorTurn → RowTurn
 rowTurn c = c .before .before .before .before .before .before .before .before .before .before .before
@@ -71,12 +65,6 @@ model c = keepModel (c .args .t2) (c .args .edges .now) (c .args .guards .now)
 
 abbrev table : Start → TableKept
 table c = keepTable (c .args .nodes .now) (c .args .zones .now)
-
-located : (c : Loaded) → c .load .result .location < 16
-located c = rw (c .load .ensures) (start c .pre .location)
-
-fits : (c : Other) → let s = start (loaded c) in NodeInRange (s .args .list .now) (model s) (table s) (s .args .n)
-fits c = start (loaded c) .pre .node
 
 -- a slot of the model's zones is there
 guards-room : (c : Start) → zoneCount * 25 ≤ length (c .args .guards .now)
@@ -89,85 +77,77 @@ zones-room c = c .pre .stores .table .zones
 reach-is :
     (c : tie.After-kind-of Inv-loop μ-loop Inv-rows μ-rows) →
     let k = c .before .before .before .before .before in
-    let s = start (loaded (other k)) in
+    let s = start (begun k) in
     ReachAt (s .args .list .now) (model s) (table s) (k .before .before .before .waited .result) (k .before .rows .a)
     (c .before .before .before .reach-of .result) (c .before .before .is-empty .result)
 reach-is c = record {
-  reaches = rw (← c .before .before .before .before .load4 .ensures) (c .before .before .before .reach-of .ensures);
+  reaches = rw (← c .before .before .before .before .load3 .ensures) (c .before .before .before .reach-of .ensures);
   empties = c .before .before .is-empty .ensures;
 }
 
-load-requires : tie.Need-load-requires Inv-loop μ-loop Inv-rows μ-rows
-load-requires c κs =
-    let n = c .before .before .before .pre .number in
-    let room = c .before .before .before .pre .stores .table .nodes in
-    search needs
-
 element-copy-out-first-action : tie.Need-element-copy-out-first-action Inv-loop μ-loop Inv-rows μ-rows
-element-copy-out-first-action c = let l = located (loaded c) in omega arith
+element-copy-out-first-action c = let l = start c .pre .stores .location in omega arith
 
 add-end-action : tie.Need-add-end-action Inv-loop μ-loop Inv-rows μ-rows
-add-end-action c = let l = located (loaded (c .before)) in omega arith
+add-end-action c = let l = start (c .before) .pre .stores .location in omega arith
 
 element-copy-out-end-action : tie.Need-element-copy-out-end-action Inv-loop μ-loop Inv-rows μ-rows
-element-copy-out-end-action c = let l = located (loaded (c .before)) in omega arith
+element-copy-out-end-action c = let l = start (c .before) .pre .stores .location in omega arith
 
 returns : tie.Need-returns Inv-loop μ-loop Inv-rows μ-rows
-returns c = no-rows _ _ _ _ (loaded (c .before .before .before) .load .ensures) refl refl (c .if1 .taken)
+returns c = no-rows _ _ _ _ _ refl refl (c .if1 .taken)
 
-load-requires-2 : tie.Need-load-requires-2 Inv-loop μ-loop Inv-rows μ-rows
-load-requires-2 c κs =
-    let s = start (loaded (c .before .before .before)) in
-    let n = s .pre .number in
+load-requires : tie.Need-load-requires Inv-loop μ-loop Inv-rows μ-rows
+load-requires c κs =
+    let s = start (c .before .before .before) in
+    let n = s .pre .stores .number in
     let room = zones-room s in
     search needs
 
-load-requires-3 : tie.Need-load-requires-3 Inv-loop μ-loop Inv-rows μ-rows
-load-requires-3 c κs =
-    let k = loaded (c .before .before .before .before) in
-    let l = located k in
-    let room = guards-room (start k) in
+load-requires-2 : tie.Need-load-requires-2 Inv-loop μ-loop Inv-rows μ-rows
+load-requires-2 c κs =
+    let s = start (c .before .before .before .before) in
+    let l = s .pre .stores .location in
+    let room = guards-room s in
     search needs
 
 waited-requires : tie.Need-waited-requires Inv-loop μ-loop Inv-rows μ-rows
 waited-requires c κs =
-    let k = c .before .before .before .before .before in
-    let f = fits k in (
-      rw (c .before .load2 .ensures) (tightens-fewer 1 2 _ (omega arith) (f .zone)),
-      rw (c .load3 .ensures, loaded k .load .ensures) (tightens-fewer 1 2 _ (omega arith) (f .invariant)),
+    let asked = start (c .before .before .before .before .before) .pre in (
+      rw (c .before .load .ensures) (tightens-fewer 1 2 _ (omega arith) (asked .zone)),
+      rw (c .load2 .ensures) (tightens-fewer 1 2 _ (omega arith) (asked .invariant)),
     )
 
 add-at : tie.Need-add-at Inv-loop μ-loop Inv-rows μ-rows
 add-at c =
-    let k = c .before .before .before .before .before .before .before in
-    let p = fits k .place in
-    let size = start (loaded k) .good .0 .0 in
-    rw (loaded k .load .ensures) (omega arith)
+    let s = start (c .before .before .before .before .before .before .before) in
+    let p = s .pre .place in
+    let size = s .good .0 .0 in
+    omega arith
 
 rows-holds : tie.Need-rows-holds Inv-loop μ-loop Inv-rows μ-rows
 rows-holds c =
     let w = c .before in
     let k = w .before .before .before .before .before .before in
-    node-rows _ _ _ _ (loaded k .load .ensures) refl refl (fits k) (w .before .before .load2 .ensures) (w .before .load3 .ensures)
-    (w .waited .ensures)
+    node-rows _ _ _ _ _ refl refl (start k .pre) (w .before .before .load .ensures) (w .before .load2 .ensures) (w .waited .ensures)
 
-load-requires-4 : tie.Need-load-requires-4 Inv-loop μ-loop Inv-rows μ-rows
-load-requires-4 c κs =
+load-requires-3 : tie.Need-load-requires-3 Inv-loop μ-loop Inv-rows μ-rows
+load-requires-3 c κs =
     let few = c .before .rows .inv .limit in
-    let room = guards-room (start (loaded (other c))) in
+    let room = guards-room (start (begun c)) in
     search needs
 
 reach-of-requires : tie.Need-reach-of-requires Inv-loop μ-loop Inv-rows μ-rows
 reach-of-requires c κs =
     let k = c .before in
     let i = k .before .rows .inv in
-    (i .tightens, rw (c .load4 .ensures) (row-asked _ _ _ i (k .rows-test .taken)))
+    (i .tightens, rw (c .load3 .ensures) (row-asked _ _ _ i (k .rows-test .taken)))
 
 mul-kind-of : tie.Need-mul-kind-of Inv-loop μ-loop Inv-rows μ-rows
 mul-kind-of c =
     let k = c .before .before .before in
     let p = row-place _ _ _ (k .before .rows .inv) (k .rows-test .taken) in
-    let size = start (loaded (other k)) .good .0 .1 in
+    let size = start (begun k) .good .0 .1 in
     omega arith
 
 shared-slice-read-kind-of : tie.Need-shared-slice-read-kind-of Inv-loop μ-loop Inv-rows μ-rows
@@ -177,7 +157,7 @@ add-at-2 : tie.Need-add-at-2 Inv-loop μ-loop Inv-rows μ-rows
 add-at-2 c =
     let k = c .before .before .before .before .before .before .before in
     let p = row-place _ _ _ (k .before .rows .inv) (k .rows-test .taken) in
-    let size = start (loaded (other k)) .good .0 .0 in
+    let size = start (begun k) .good .0 .0 in
     omega arith
 
 denominator-small : (c : Start) → c .args .t2 .denominator < 2 ^ 32
@@ -185,13 +165,13 @@ denominator-small c = search needs
 
 cast-limit : tie.Need-cast-limit Inv-loop μ-loop Inv-rows μ-rows
 cast-limit c =
-    let d = denominator-small (start (loaded (other (c .before .before .before .before .before .before)))) in
+    let d = denominator-small (start (begun (c .before .before .before .before .before .before))) in
     omega arith
 
 mul-limit : tie.Need-mul-limit Inv-loop μ-loop Inv-rows μ-rows
 mul-limit c =
-    let k = loaded (other (c .before .before .before .before .before .before .before)) in
-    let p = product-small (start k .args .t2 .denominator) (k .load .result .value) (2 ^ 32) (2 ^ 32) (denominator-small (start k)) (search needs) in
+    let s = start (begun (c .before .before .before .before .before .before .before)) in
+    let p = product-small (s .args .t2 .denominator) (s .args .node .value) (2 ^ 32) (2 ^ 32) (denominator-small s) (search needs) in
     omega arith
 
 add-e-end : tie.Need-add-e-end Inv-loop μ-loop Inv-rows μ-rows
@@ -203,13 +183,13 @@ element-copy-out-e c = let few = c .before .before .before .before .before .befo
 cast-e : tie.Need-cast-e Inv-loop μ-loop Inv-rows μ-rows
 cast-e c =
     let k = c .before .before .before .before .before .before .before .before in
-    let few = start (loaded (other k)) .pre .stores .edges .at (k .before .rows .a) in
+    let few = start (begun k) .pre .stores .edges .at (k .before .rows .a) in
     omega arith
 
 cast-e-end : tie.Need-cast-e-end Inv-loop μ-loop Inv-rows μ-rows
 cast-e-end c =
     let k = c .before .before .before .before .before .before .before .before .before in
-    let few = start (loaded (other k)) .pre .stores .edges .at (k .before .rows .a + 1) in
+    let few = start (begun k) .pre .stores .edges .at (k .before .rows .a + 1) in
     omega arith
 
 element-copy-out-e-end : tie.Need-element-copy-out-e-end Inv-loop μ-loop Inv-rows μ-rows
@@ -220,12 +200,12 @@ loop-holds c =
     let w = c .before .before .before .before in
     let k = w .before .before .before .before .before in
     row-successors _ _ _ (k .before .rows .inv) (k .rows-test .taken) (reach-is w)
-    (λ q. eqb-false _ _ (c .before .before .before .if2 .left) (w .kind-of .ensures ∙ q)) (start (loaded (other k)) .pre .stores .edges) refl
+    (λ q. eqb-false _ _ (c .before .before .before .if2 .left) (w .kind-of .ensures ∙ q)) (start (begun k) .pre .stores .edges) refl
 
 mul-number-of : tie.Need-mul-number-of Inv-loop μ-loop Inv-rows μ-rows
 mul-number-of c =
     let p = successor-place _ _ _ (c .before .loop .inv) (c .loop-test .taken) in
-    let size = start (loaded (other (rowTurn c))) .good .0 .1 in
+    let size = start (begun (rowTurn c)) .good .0 .1 in
     omega arith
 
 shared-slice-read-number-of : tie.Need-shared-slice-read-number-of Inv-loop μ-loop Inv-rows μ-rows
@@ -235,12 +215,12 @@ shared-slice-read-successor : tie.Need-shared-slice-read-successor Inv-loop μ-l
 shared-slice-read-successor c =
     let k = c .before .before .before in
     let last = k .before .loop .inv .edges in
-    let room = start (loaded (other (rowTurn k))) .pre .stores .model .edges in
+    let room = start (begun (rowTurn k)) .pre .stores .model .edges in
     omega arith
 
 successor-requires : tie.Need-successor-requires Inv-loop μ-loop Inv-rows μ-rows
 successor-requires c κs =
-    let s = start (loaded (other (rowTurn (c .before .before .before)))) in
+    let s = start (begun (rowTurn (c .before .before .before))) in
     let n = c .before .number-of .ensures .1 in
     let room = zones-room s in
     let rows = s .pre .stores .table .nodes in
@@ -258,7 +238,7 @@ add-at-3 : tie.Need-add-at-3 Inv-loop μ-loop Inv-rows μ-rows
 add-at-3 c =
     let k = c .before .before .before .before .before .before .before in
     let p = successor-place _ _ _ (k .before .loop .inv) (k .loop-test .taken) in
-    let size = start (loaded (other (rowTurn k))) .good .0 .0 in
+    let size = start (begun (rowTurn k)) .good .0 .0 in
     omega arith
 
 add-e : tie.Need-add-e Inv-loop μ-loop Inv-rows μ-rows
@@ -309,7 +289,7 @@ returns-4 c =
     let s = c .before .before .before in
     let k = s .before .before in
     successor-found _ _ _ (k .before .loop .inv) (k .loop-test .taken) refl (s .number-of .ensures .0) (c .before .successor .ensures .0)
-    (λ q. miss (1 ∷ 2 ∷ 3 ∷ 4 ∷ 5 ∷ 6 ∷ 7 ∷ 8 ∷ []) 0 tt (rw q at (c .match .keys2)))
+    (λ q. miss found 0 tt (rw q at (c .match .keys2)))
 
 returns-5 : tie.Need-returns-5 Inv-loop μ-loop Inv-rows μ-rows
 returns-5 c = sum-large _ _ _ (c .before .before .loop .inv) (c .before .loop-test .left) (c .if4 .taken)
@@ -317,9 +297,9 @@ returns-5 c = sum-large _ _ _ (c .before .before .loop .inv) (c .before .loop-te
 pub rows-finding-spec : {M : Type 1} → statement M
 rows-finding-spec =
     tie.close
-    (tie.spec Inv-loop μ-loop Inv-rows μ-rows load-requires (λ c. search needs)
-    element-copy-out-first-action (λ c. search needs) add-end-action element-copy-out-end-action (λ c. search needs) returns load-requires-2
-    load-requires-3 waited-requires add-at rows-holds (λ c. search needs) load-requires-4 reach-of-requires (λ c κs. search needs) mul-kind-of
+    (tie.spec Inv-loop μ-loop Inv-rows μ-rows (λ c. search needs)
+    element-copy-out-first-action (λ c. search needs) add-end-action element-copy-out-end-action (λ c. search needs) returns load-requires
+    load-requires-2 waited-requires add-at rows-holds (λ c. search needs) load-requires-3 reach-of-requires (λ c κs. search needs) mul-kind-of
     shared-slice-read-kind-of (λ c κs. search needs) add-at-2 cast-limit (λ c. search needs) mul-limit element-copy-out-e
     cast-e add-e-end element-copy-out-e-end cast-e-end loop-holds mul-number-of shared-slice-read-number-of
     (λ c κs. search needs) (λ c. search needs) (λ c. search needs) shared-slice-read-successor successor-requires (λ c. search needs) add-sum

@@ -1,12 +1,12 @@
 -- Proof of `walk`: before each node nothing was found, and judging the rest gives what the whole walk gives.
 use Prim.Native.Nat.{_-_}
-use mathlib.Core.List.{[], _∷_}
 use native.Mathlib.Omega.{arith}
 use borrow.Author.Needs.{needs}
 use types.Run.{miss}
 use Rattle.model.specs.Index.{Kept as ModelKept, keep}
 use Rattle.table.specs.Index.{Kept, keep as keepTable}
 use Rattle.judge.specs.Walk.{walked}
+use Rattle.judge.proofs.FindingLaws.{found}
 use Rattle.judge.proofs.WalkLaws.{AtNode, nodes-begin, nodes-end, node-found, node-next}
 use Rattle.judge.proofs.walk.walk.Statement.{statement}
 use Rattle.judge.proofs.walk.walk.Tie as tie
@@ -31,7 +31,7 @@ returns : tie.Need-returns Inv-loop μ-loop
 returns c =
     let turn = c .before .before in
     node-found _ _ _ (turn .before .loop .inv) (turn .loop-test .taken) (c .before .walk-node .ensures)
-    (λ q. miss (1 ∷ 2 ∷ 3 ∷ 4 ∷ 5 ∷ 6 ∷ 7 ∷ 8 ∷ []) 0 tt (rw q at (c .match .keys2)))
+    (λ q. miss found 0 tt (rw q at (c .match .keys2)))
 
 add-n : tie.Need-add-n Inv-loop μ-loop
 add-n c =

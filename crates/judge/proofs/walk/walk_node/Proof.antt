@@ -6,8 +6,8 @@ use borrow.Author.Needs.{needs}
 use lib.ListN.{length}
 use Rattle.model.specs.Index.{Kept as ModelKept, keep as keepModel}
 use Rattle.table.specs.Index.{Kept as TableKept, keep as keepTable}
-use Rattle.judge.specs.Walk.{BodyInRange}
-use Rattle.judge.proofs.WalkLaws.{target-good, target-bad, behind-there, cut-there, rows-there, node-cut, node-uncut}
+use Rattle.judge.specs.Walk.{BodyAsked}
+use Rattle.judge.proofs.WalkLaws.{target-good, target-bad, body-asked, behind-there, cut-there, rows-there, node-cut, node-uncut}
 use Rattle.judge.proofs.walk.walk_node.Statement.{statement}
 use Rattle.judge.proofs.walk.walk_node.Tie as tie
 
@@ -24,20 +24,21 @@ model c = keepModel (c .args .t2) (c .args .edges .now) (c .args .guards .now)
 abbrev table : tie.Start → TableKept
 table c = keepTable (c .args .nodes .now) (c .args .zones .now)
 
-body : (c : tie.After-struct-known3) → let s = start (loaded c) in BodyInRange (s .args .list .now) (model s) (table s) (s .args .n)
-body c = start (loaded c) .pre .node (rw (← loaded c .load .ensures) (c .before .if1 .left))
+body : (c : tie.After-struct-known3) →
+    let s = start (loaded c) in BodyAsked (s .args .list .now) (model s) (table s) (s .args .n) (loaded c .load .result)
+body c = let l = loaded c in body-asked _ _ _ _ (l .load .ensures) (start l .pre) (c .before .if1 .left)
 
 there : (c : tie.After-struct-known3) → loaded c .load .result .place + 1 < length (start (loaded c) .args .list .now)
-there c = behind-there _ _ _ _ (loaded c .load .ensures) (body c)
+there c = behind-there _ _ _ _ (body c)
 
 load-requires : tie.Need-load-requires
 load-requires c κs =
-    let n = c .before .before .before .pre .number in
+    let n = c .before .before .before .pre .stores .number in
     let room = c .before .before .before .pre .stores .table .nodes in
     search needs
 
 element-copy-out-if1 : tie.Need-element-copy-out-if1
-element-copy-out-if1 c = let l = rw (← c .before .load .ensures) at (start (c .before) .pre .location) in omega arith
+element-copy-out-if1 c = let l = rw (← c .before .load .ensures) at (start (c .before) .pre .stores .location) in omega arith
 
 returns : tie.Need-returns
 returns c =
@@ -62,7 +63,7 @@ cut-finding-requires : tie.Need-cut-finding-requires
 cut-finding-requires c κs =
     let w = c .before in
     let k = w .before .before in
-    cut-there _ _ _ _ (loaded k .load .ensures) (body k) (sym (w .kind-of .ensures) ∙ c .if3 .taken)
+    cut-there _ _ _ _ (body k) (sym (w .kind-of .ensures) ∙ c .if3 .taken)
 
 returns-3 : tie.Need-returns-3
 returns-3 c =
@@ -74,14 +75,7 @@ returns-3 c =
 rows-finding-requires : tie.Need-rows-finding-requires
 rows-finding-requires c κs =
     let w = c .before in
-    let k = w .before .before in
-    let s = start (loaded k) in
-    record {
-      stores = s .pre .stores;
-      number = s .pre .number;
-      location = s .pre .location;
-      node = rows-there _ _ _ _ (loaded k .load .ensures) (body k) (λ q. c .if3 .left (w .kind-of .ensures ∙ q));
-    }
+    rows-there _ _ _ _ (body (w .before .before)) (λ q. c .if3 .left (w .kind-of .ensures ∙ q))
 
 returns-4 : tie.Need-returns-4
 returns-4 c =

@@ -1,10 +1,10 @@
--- Proof of `rest_part`: the calls are those of the definition; a bound of a word is small enough to be negated, and the zone with the negated one
+-- Proof of `Zone::rest_part`: the calls are those of the definition; a bound of a word is small enough to be negated, and the zone with the negated one
 -- can be tightened.
 use mathlib.Core.Path.{_∙_}
 use borrow.Author.Needs.{needs}
-use Rattle.judge.proofs.PartLaws.{bound-small, rest-fits, is-rest}
-use Rattle.judge.proofs.cutting.rest_part.Statement.{statement}
-use Rattle.judge.proofs.cutting.rest_part.Tie as tie
+use Rattle.zone.proofs.PartLaws.{bound-small, rest-fits, is-rest}
+use Rattle.zone.proofs.zones.Zone.rest_part.Statement.{statement}
+use Rattle.zone.proofs.zones.Zone.rest_part.Tie as tie
 
 negated-requires : tie.Need-negated-requires
 negated-requires c κs =

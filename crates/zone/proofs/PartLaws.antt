@@ -1,21 +1,23 @@
 -- Laws of a zone that is cut in two by a bound: the part where the bound holds, and the rest. Assumes nothing.
-use Prim.Native.Nat.{_<_}
+use Prim.Native.Nat.{ℕ, _<_, _^_}
 use mathlib.Core.Path.{_≡_, refl, ap, subst}
 use mathlib.Core.Bool.{Bool, true, false, not, _||_}
 use native.Mathlib.Omega.{arith}
 use lib.Dec.{T}
 use lib.IntN.{ℤ, natAbs, negℤ}
 use Rattle.zone.specs.Scale.{Bound, holds?, Region, Inside}
-use Rattle.zone.specs.Cells.{negated}
+use Rattle.zone.specs.Words.{boundOf}
+use Rattle.zone.specs.Cells.{negated, size}
 use Rattle.zone.specs.Squares.{withBound, tightened, empty?, inside?, Tightens}
-use Rattle.zone.specs.Reading.{cellOf}
+use Rattle.zone.specs.Reading.{cellOf, withWord}
+use Rattle.zone.specs.Parts.{holdingSquare, restSquare, CutBy}
 use Rattle.zone.specs.declared.bounds.Bound.{Bound as Cell}
 use Rattle.zone.specs.declared.zones.Zone.{Zone as Square}
 use Rattle.zone.proofs.Bools.{true-false}
 use Rattle.zone.proofs.Integers.{abs-parts, up-neg, dn-neg}
-use Rattle.zone.proofs.KeyLaws.{opposite, key-opposite, opposite-holds}
+use Rattle.zone.proofs.KeyLaws.{opposite, key-opposite, opposite-holds, size-cellOf}
 use Rattle.zone.proofs.Regions.{Stands, inBoth, stands-same, stands-withBound, empty-yes, inside-yes, inside-no}
-use Rattle.zone.proofs.Sizes.{tightens-withBound}
+use Rattle.zone.proofs.Sizes.{tightens-fewer, tightens-withBound}
 
 -- where a bound does not hold
 abbrev pub failing : Bound → Region
@@ -56,3 +58,22 @@ module _ {R S : Region} {y z : Square} (fits : Tightens 1 y) (s : Stands R y) (t
       by : (c : Bool) → empty? (tightened y) ≡ c → (c || inside? (tightened y) z) ≡ false → Inside R S → ⊥
       by true e h m = true-false h
       by false e h m = inside-no fits s t e h m
+
+-- ---- what the code works out: a zone with the bound of a word, and with its negation
+module _ {w i j : ℕ} {b : Cell} {z : Square} (a : CutBy w z) (ei : i ≡ boundOf w .i) (ej : j ≡ boundOf w .j) (eb : b ≡ cellOf (boundOf w)) where
+  pub holding-fits : {y : Square} → y ≡ withBound i j b z → Tightens 1 y
+  holding-fits e = rw (e, ei, ej, eb) (tightens-fewer 1 3 _ (omega arith) (tightens-withBound (boundOf w) z (a .number) (a .zone)))
+
+  pub is-holding : {y : Square} → y ≡ withBound i j b z → tightened y ≡ holdingSquare w z
+  unfolding holdingSquare withWord
+  is-holding e = rw (e, ei, ej, eb)
+
+  pub bound-small : size b < 2 ^ 27
+  bound-small = let h = size-cellOf (boundOf w) (a .number) in rw eb (omega arith)
+
+  pub rest-fits : {y : Square} → y ≡ withBound j i (negated b) z → Tightens 1 y
+  rest-fits e = rw (e, ei, ej, eb) (tightens-fewer 1 3 _ (omega arith) (tightens-rest (boundOf w) z (a .number) (a .zone)))
+
+  pub is-rest : {y : Square} → y ≡ withBound j i (negated b) z → tightened y ≡ restSquare w z
+  unfolding restSquare
+  is-rest e = rw (e, ei, ej, eb)

@@ -1,9 +1,9 @@
--- Proof of `holding_part`: the calls are those of the definition, and a zone with the bound of a word can be tightened.
+-- Proof of `Zone::holding_part`: the calls are those of the definition, and a zone with the bound of a word can be tightened.
 use mathlib.Core.Path.{_∙_}
 use borrow.Author.Needs.{needs}
-use Rattle.judge.proofs.PartLaws.{holding-fits, is-holding}
-use Rattle.judge.proofs.cutting.holding_part.Statement.{statement}
-use Rattle.judge.proofs.cutting.holding_part.Tie as tie
+use Rattle.zone.proofs.PartLaws.{holding-fits, is-holding}
+use Rattle.zone.proofs.zones.Zone.holding_part.Statement.{statement}
+use Rattle.zone.proofs.zones.Zone.holding_part.Tie as tie
 
 tighten-requires : tie.Need-tighten-requires
 tighten-requires c κs =
