@@ -154,7 +154,7 @@ fn write_in_parts(mut input: ChildStdin, bytes: &[u8]) -> std::io::Result<()> {
     }
 }
 
-/// A refusal in document 01's numbers.
+/// A refusal in the documents' numbers.
 fn refused(refusal: miss_chance::Refusal) -> Refusal {
     Refusal {
         number: refusal.reason.number(),

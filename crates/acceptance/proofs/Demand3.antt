@@ -2,14 +2,15 @@
 -- that holds the present state; at one step by a second induction, on the number of the node, through cuts, which take no step. Assumes nothing.
 use Prim.Native.Nat.{ℕ, zero, suc, _+_, _*_, _^_, _≤_, _<_, zero-le}
 use mathlib.Core.Path.{_≡_, refl, sym, subst, _∙_}
-use mathlib.Core.Bool.{Bool, true, false, _&&_}
+use mathlib.Core.Logic.{_⊎_, inl, inr}
+use mathlib.Core.Bool.{true, false, _&&_}
 use mathlib.Core.List.{List, [], _∷_}
 use mathlib.Core.Option.{some}
 use native.Mathlib.Omega.{arith}
 use native.Mathlib.Nat.{mul-le-mul-left, mul-le-mul-right, add-mul, zero-mul, add-le-add, le-trans, le-refl, le-of-eq, pow-succ', mul-comm, mul-assoc}
 use lib.Dec.{T}
 use lib.ListN.{getElem?, length}
-use Rattle.zone.specs.Scale.{holds?, in?, Region, within}
+use Rattle.zone.specs.Scale.{in?, Region, within}
 use Rattle.zone.specs.Moves.{reset}
 use Rattle.zone.proofs.Bools.{by-test, both}
 use Rattle.zone.proofs.Attained.{delayed-zero}
@@ -20,6 +21,7 @@ use Rattle.acceptance.specs.Choices.{later, landing, invariant?, through
 use Rattle.acceptance.specs.Schedulers.{Scheduler, perStep, edgesCount, missed?, weightedCount, BoundsEvery}
 use Rattle.acceptance.specs.Acceptance.{Reach, Pairwise, worth, rowSum, SuccessorFits, RowFits}
 use Rattle.acceptance.specs.Acceptance.{holdingPart, restPart, PartFits, BodyFits, startValuations, Accepted, certified}
+use Rattle.acceptance.proofs.CutLaws.{parts-cover}
 use Rattle.acceptance.proofs.SchedulerLaws.{by-step, some-one, none-some}
 
 -- the node numbered n holds the state s
@@ -90,13 +92,12 @@ module _ (M : Model) (W : Table) (ok : Accepted M W) (k : ℕ) (positive : 1 ≤
 
   -- a cut hands the state on to a node with a number above, of which there are at most `left`
   settled : (left b : ℕ) (s : State) → length (W .nodes) ≤ b + left → Holds W k b s → Settled b s
-  unfolding holdingPart restPart
   settled zero b s l H = let there = H .exists in absurd (omega arith)
   settled (suc left) b s l H = by (nodeAt W b .body) (ok .nodes b (H .exists) .body) (λ c. settled left c s)
     where
       by : (B : Body) → BodyFits M W b (nodeAt W b) B → ((c : ℕ) → length (W .nodes) ≤ c + left → Holds W k c s → Settled c s) → Settled b s
       by (rowsBody rs) f next = record { node = b; holds = H; value = le-refl _; rows = rs; fits = f }
-      by (cutBody c) f next = part (holds? k (s .valuation) (c .bound)) refl
+      by (cutBody c) f next = part (parts-cover (nodeAt W b) (c .bound) k (s .valuation) (H .zone))
         where
           onto : (P : Region) (t : Successor) → PartFits W b (nodeAt W b) P t → P k (s .valuation) → Settled b s
           onto P t x p =
@@ -108,9 +109,9 @@ module _ (M : Model) (W : Table) (ok : Accepted M W) (k : ℕ) (positive : 1 ≤
               }) in
               record { node = r .node; holds = r .holds; value = le-trans (r .value) (x .matching .value); rows = r .rows; fits = r .fits }
 
-          part : (o : Bool) → holds? k (s .valuation) (c .bound) ≡ o → Settled b s
-          part true e = onto (holdingPart (nodeAt W b) (c .bound)) (c .holding) (f .holding) (H .zone, rw e tt)
-          part false e = onto (restPart (nodeAt W b) (c .bound)) (c .rest) (f .rest) (H .zone, rw e tt)
+          part : holdingPart (nodeAt W b) (c .bound) k (s .valuation) ⊎ restPart (nodeAt W b) (c .bound) k (s .valuation) → Settled b s
+          part (inl p) = onto (holdingPart (nodeAt W b) (c .bound)) (c .holding) (f .holding) p
+          part (inr p) = onto (restPart (nodeAt W b) (c .bound)) (c .rest) (f .rest) p
 
   -- elsewhere each action has a row there
   row-for : (b : ℕ) (s : State) (r : Settled b s) → missed? M k s ≡ false → (a : ℕ) (A : Action) →

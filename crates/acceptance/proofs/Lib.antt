@@ -1,8 +1,8 @@
--- The theorems about what is meant, none of which uses a later one: demand 3, what pins the count and the parts of a cut, acceptance and
--- checks, and that they agree.
+-- The theorems about what is meant, none of which uses a later one: the parts of a cut, demand 3, what pins the
+-- count, acceptance and checks, and that they agree.
 pub mod SchedulerLaws
+pub mod CutLaws
 pub mod Demand3
 pub mod CountLaws
-pub mod CutLaws
 pub mod Agreement
 pub mod Exact

@@ -15,8 +15,8 @@ use Rattle.zone.specs.Parts.{holdingSquare, restSquare}
 use Rattle.zone.specs.Stores.{zoneAt}
 use Rattle.zone.specs.declared.zones.Zone.{Zone as Square}
 use Rattle.zone.proofs.Sizes.{tightens-fewer, tightens-withBound}
-use Rattle.zone.proofs.Regions.{Stands, inBoth, stands-same, stands-withBound}
-use Rattle.zone.proofs.PartLaws.{stands-rest, tightens-rest, part-yes, part-no}
+use Rattle.zone.proofs.Regions.{Stands, inBoth, stands-same, stands-withBound, lies-yes, lies-no}
+use Rattle.zone.proofs.PartLaws.{stands-rest, tightens-rest}
 use Rattle.model.specs.Indexed.{withBounds}
 use Rattle.model.proofs.ZoneLaws.{GoodBound, GoodZone, stands-bounds, tightens-bounds}
 use Rattle.table.specs.Fields.{numberOf}
@@ -40,7 +40,7 @@ decides : {P Q : Region} {y : Square} → Tightens 3 y → Stands (inBoth P Q) y
 decides {P} {Q} {y} t s =
     let fits = tightens-fewer 1 3 y (omega arith) t in
     let stands : Stands (inBoth Q P) y = stands-same (λ k v p. (p .1, p .0)) (λ k v p. (p .1, p .0)) s in
-    record { pass = λ S g. part-yes fits stands (stands-bounds S g); fail = λ S g. part-no fits stands (stands-bounds S g) }
+    record { pass = λ S g. lies-yes fits stands (stands-bounds S g); fail = λ S g. lies-no fits stands (stands-bounds S g) }
 
 -- a node with a good zone, cut by the bound of a word
 module _ (N : Node) (z : GoodZone (N .zone)) (w : ℕ) (g : GoodBound (boundOf w)) where

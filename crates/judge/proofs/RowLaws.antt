@@ -24,15 +24,12 @@ use Rattle.judge.specs.Reaching.{actionCount, ActionsFit}
 
 -- ---- the words from a place on
 
-pub front : (at : ℕ) (words ws : List ℕ) → drop at words ≡ ws → getD words at 0 ≡ getD ws 0 0
-front at words ws e =
-    let z : at + 0 ≡ at = omega arith in
-    let look : getD (drop at words) 0 0 ≡ getD words (at + 0) 0 = getD-drop at words 0 0 in
-    sym (rw z at look) ∙ ap (λ (v : List ℕ). getD v 0 0) e
-
 -- n words further on
 pub beyond : (n at : ℕ) (words ws : List ℕ) → drop at words ≡ ws → getD words (at + n) 0 ≡ getD ws n 0
 beyond n at words ws e = sym (getD-drop at words n 0) ∙ ap (λ (v : List ℕ). getD v n 0) e
+
+pub front : (at : ℕ) (words ws : List ℕ) → drop at words ≡ ws → getD words at 0 ≡ getD ws 0 0
+front at words ws e = let z : at + 0 ≡ at = omega arith in rw z at (beyond 0 at words ws e)
 
 pub behind : (n at : ℕ) (words ws : List ℕ) → drop at words ≡ ws → drop (at + n) words ≡ drop n ws
 behind n at words ws e = sym (drop-drop n at words) ∙ ap (drop n) e

@@ -1,4 +1,4 @@
--- The definitions that the contracts of `judge` rest on: a verdict in document 01's numbers and values, then the algorithms.
+-- The definitions that the contracts of `judge` rest on: a verdict in the documents' numbers and values, then the algorithms.
 pub mod Verdicts
 pub mod Numbers
 pub mod Findings

@@ -1,5 +1,5 @@
 -- Document 01, "The four calls and their refusals", and "Which form to use where", and document 02, card 1: for each case of a verdict the
--- document's number and values. Assumes nothing.
+-- documents' number and values. Assumes nothing.
 use Rattle.zone.specs.Checks.{Answer, refused, accepted}
 use Rattle.acceptance.specs.declared.certificate.Certificate.{Certificate}
 use Rattle.judge.specs.declared.verdict.Verdict.{Verdict}

@@ -1,4 +1,4 @@
-// A verdict in document 01's numbers.
+// A verdict in the documents' numbers.
 ghost use mathlib.Core.Path.{_≡_};
 ghost use Rattle.judge.specs.Verdicts.{verdictAnswer};
 ghost use Rattle.zone.specs.Checks.{refused};
@@ -6,7 +6,7 @@ ghost use Rattle.judge.specs.Numbers.{numbered};
 use crate::verdict::Verdict;
 use acceptance::certificate::Certificate;
 
-// A verdict in document 01's numbers: the number of a refusal and its place, or 0 and what an acceptance gives.
+// A verdict in the documents' numbers: the number of a refusal and its place, or 0 and what an acceptance gives.
 pub struct Numbered {
     pub number: u32,
     pub place: usize,

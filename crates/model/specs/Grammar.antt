@@ -17,7 +17,7 @@ follows edge = location ∷ action ∷ edge ∷ start ∷ []
 follows bound = []
 follows start = bound ∷ []
 
--- behind a value, or a word of a row: a row's word, the next node or the start node
+-- behind a value, a word of a row or a cut's B words: a row's word, the next node or the start node
 abbrev pub rowsOrMore : List TableKind
 rowsOrMore = node ∷ blocked ∷ successor ∷ startNode ∷ []
 

@@ -49,7 +49,7 @@ pub record Agrees (M : Model) (m : ModelKept) (whole : ℕ) (before : List ℕ) 
   -- behind a node's word and its bounds the location exists
   pub exists : s .opener ≡ tableNumber node → s .location < length (M .locations)
   pub rows : LeftDue m (due M before) s
-  -- rows are due behind a value and rows alone
+  -- rows are due behind a value, a cut and rows alone
   pub behind : (s .rows ≡ 0) ⊎ (oneOf? rowOpeners (s .opener) ≡ true)
   pub target : oneOf? rowOpeners (s .opener) ≡ true → s .target ≡ due M before .target
 

@@ -6,7 +6,7 @@ use mathlib.Core.Logic.{_⊎_, inl, inr, _≢_}
 use mathlib.Core.Bool.{Bool, true, false, not, _&&_, _||_}
 use mathlib.Core.List.{List, [], _∷_}
 use native.Mathlib.Omega.{arith}
-use borrow.Author.Tests.{eqb-true, not-true}
+use borrow.Author.Tests.{eqb-true, ne-eqb, not-true}
 use lib.Dec.{T, eqb, ltb, leb→le, ltb→lt, eqb→eq}
 use lib.ListN.{getD, length, drop, length-drop}
 use lib.Seq.{drop-drop}
@@ -193,18 +193,25 @@ module _ (M : Model) (W : Table) (words : List ℕ) where
           let next : suc p + n + 1 ≡ suc (suc p + n) = omega arith in
           rw (← next) behind
 
-  -- behind words whose opener is o, whose last node has the location l, and where the rows d are due
+  -- behind words whose opener is o and where the rows d are due: a cut stands behind a value alone, and behind it no blocked row
+  record CutsStand (o : ℕ) (d : Due) (ws : List ℕ) : Type 0 where
+    uncut : o ≢ tableNumber value → isTable cut (getD ws 0 0) ≡ false
+    cuts : o ≡ tableNumber value → isTable cut (getD ws 0 0) ≡ true → (L : Location) → d .target ≡ L .target → CutStands (length (W .nodes)) L ws
+    onward : o ≡ tableNumber cut → isTable blocked (getD ws 0 0) ≡ false
+
+  -- behind words whose last node has the location l as well
   record Stands (o l : ℕ) (d : Due) (p : ℕ) (ws : List ℕ) : Type 0 where
     head : o ≡ tableNumber noKind → 1 ≤ wholeOf (getD ws 0 0)
     behind : o ≡ tableNumber node → NodeStands l ws
     rows : oneOf? rowOpeners o ≡ true → isTable cut (getD ws 0 0) ≡ false → DueStand (length (W .nodes)) (d .begun) (d .rows) ws
-    -- a cut stands behind a value alone, and behind it no blocked row
-    uncut : o ≢ tableNumber value → isTable cut (getD ws 0 0) ≡ false
-    cuts : o ≡ tableNumber value → isTable cut (getD ws 0 0) ≡ true → (L : Location) → d .target ≡ L .target → CutStands (length (W .nodes)) L ws
-    onward : o ≡ tableNumber cut → isTable blocked (getD ws 0 0) ≡ false
+    parts : CutsStand o d ws
     more : o ≢ tableNumber startNode → 1 ≤ length ws
     nodes : All (NodeShaped M W words) (nodesOf M p ws)
     start : o ≢ tableNumber startNode → numberOf (getD ws (indexOf (tableNumber startNode) ws) 0) < length (W .nodes)
+
+  -- behind which an A may stand
+  abbrev blockedOpeners : List TableKind
+  blockedOpeners = value ∷ blocked ∷ successor ∷ []
 
   module _ (formed : WellFormed M) (o l : ℕ) (d : Due) (w p : ℕ) (ws : List ℕ) where
     good-bound : Passes nodeBound o d w → GoodBound (boundOf w)
@@ -247,6 +254,15 @@ module _ (M : Model) (W : Table) (words : List ℕ) where
       rest = h .2 1 (omega arith);
     }
 
+    -- a word of another kind, no A where a cut is its opener
+    no-cut : (k : TableKind) → kind w ≡ tableNumber k → tableNumber k ≢ tableNumber cut → (o ≡ tableNumber cut → tableNumber k ≢ tableNumber blocked) →
+        CutsStand o d (w ∷ ws)
+    no-cut k n c b = record {
+      uncut = λ i. ne-eqb _ _ (λ q. c (sym n ∙ q));
+      cuts = λ i t. absurd (c (sym n ∙ eqb-true _ _ t));
+      onward = λ i. ne-eqb _ _ (λ q. b i (sym n ∙ q));
+    }
+
     none-due : (ns : List ℕ) → T (none? ns) → DueStand (length (W .nodes)) (d .begun) ns (w ∷ ws)
     none-due [] t = tt
     none-due (n ∷ ns) t = absurd t
@@ -262,9 +278,7 @@ module _ (M : Model) (W : Table) (words : List ℕ) where
           head = λ i. leb→le 1 (wholeOf w) (g .fields);
           behind = λ i. absurd (omega arith);
           rows = λ i u. absurd (not-one rowOpeners o (tableNumber noKind) i refl first);
-          uncut = λ i. rw (g .named);
-          cuts = λ i t. false-true (rw (g .named) at t);
-          onward = λ i. rw (g .named);
+          parts = no-cut tableHead (g .named) (λ q. omega arith) (λ i q. omega arith);
           more = λ i. omega arith;
           nodes = rw (g .named) (r .nodes);
           start = λ i. rw (g .named) (r .start (λ j. omega arith));
@@ -275,9 +289,7 @@ module _ (M : Model) (W : Table) (words : List ℕ) where
           head = λ i. absurd (not-one (tableHead ∷ rowOpeners) o (tableNumber noKind) within refl i);
           behind = λ i. absurd (not-one (tableHead ∷ rowOpeners) o (tableNumber node) within refl i);
           rows = λ i u. none-due (d .rows) (g .rows);
-          uncut = λ i. rw (g .named);
-          cuts = λ i t. false-true (rw (g .named) at t);
-          onward = λ i. rw (g .named);
+          parts = no-cut node (g .named) (λ q. omega arith) (λ i q. omega arith);
           more = λ i. omega arith;
           nodes = rw (g .named) (more (node-shaped p w ws e (location-exists g) (r .behind refl)) (r .nodes));
           start = λ i. rw (g .named) (r .start (λ j. omega arith));
@@ -288,9 +300,7 @@ module _ (M : Model) (W : Table) (words : List ℕ) where
           head = λ i. absurd (omega arith);
           behind = λ i. with-bound l w ws (g .named) (good-bound g) (r .behind i);
           rows = λ i u. absurd (not-one rowOpeners o (tableNumber node) i refl last);
-          uncut = λ i. rw (g .named);
-          cuts = λ i t. false-true (rw (g .named) at t);
-          onward = λ i. rw (g .named);
+          parts = no-cut nodeBound (g .named) (λ q. omega arith) (λ i q. omega arith);
           more = λ i. omega arith;
           nodes = rw (g .named) (r .nodes);
           start = λ i. rw (g .named) (r .start i);
@@ -300,24 +310,21 @@ module _ (M : Model) (W : Table) (words : List ℕ) where
         record {
           head = λ i. absurd (omega arith);
           behind = λ i.
-              with-value l w ws (g .named) (leb→le (valueOf w) (W .whole) (g .fields)) (r .more (λ j. omega arith)) (behind-value ws (r .rows refl) (r .cuts refl));
+              with-value l w ws (g .named) (leb→le (valueOf w) (W .whole) (g .fields)) (r .more (λ j. omega arith))
+              (behind-value ws (r .rows refl) (r .parts .cuts refl));
           rows = λ i u. absurd (not-one rowOpeners o (tableNumber node) i refl last);
-          uncut = λ i. rw (g .named);
-          cuts = λ i t. false-true (rw (g .named) at t);
-          onward = λ i. rw (g .named);
+          parts = no-cut value (g .named) (λ q. omega arith) (λ i q. omega arith);
           more = λ i. omega arith;
           nodes = rw (g .named) (r .nodes);
           start = λ i. rw (g .named) (r .start (λ j. omega arith));
         }
     stands-with blocked g n e r =
-        let within = behind blocked o (g .follows) (value ∷ blocked ∷ successor ∷ []) tt in
+        let within = behind blocked o (g .follows) blockedOpeners tt in
         record {
-          head = λ i. absurd (not-one (value ∷ blocked ∷ successor ∷ []) o (tableNumber noKind) within refl i);
-          behind = λ i. absurd (not-one (value ∷ blocked ∷ successor ∷ []) o (tableNumber node) within refl i);
-          rows = λ i u. due-blocked (length (W .nodes)) w ws (d .begun) (d .rows) (g .named) (g .rows) (r .rows refl (r .uncut (λ j. omega arith)));
-          uncut = λ i. rw (g .named);
-          cuts = λ i t. false-true (rw (g .named) at t);
-          onward = λ i. absurd (not-one (value ∷ blocked ∷ successor ∷ []) o (tableNumber cut) within refl i);
+          head = λ i. absurd (not-one blockedOpeners o (tableNumber noKind) within refl i);
+          behind = λ i. absurd (not-one blockedOpeners o (tableNumber node) within refl i);
+          rows = λ i u. due-blocked (length (W .nodes)) w ws (d .begun) (d .rows) (g .named) (g .rows) (r .rows refl (r .parts .uncut (λ j. omega arith)));
+          parts = no-cut blocked (g .named) (λ q. omega arith) (λ i q. not-one blockedOpeners o (tableNumber cut) within refl i);
           more = λ i. omega arith;
           nodes = rw (g .named) (r .nodes);
           start = λ i. rw (g .named) (r .start (λ j. omega arith));
@@ -329,10 +336,8 @@ module _ (M : Model) (W : Table) (words : List ℕ) where
           behind = λ i. absurd (not-one rowOpeners o (tableNumber node) within refl i);
           rows = λ i u.
               due-successor (length (W .nodes)) w ws (d .begun) (d .rows) (g .named) (number-there successor (inl refl) g) n
-              (left (length (W .nodes)) w ws d (r .rows refl (r .uncut (λ j. omega arith))));
-          uncut = λ i. rw (g .named);
-          cuts = λ i t. false-true (rw (g .named) at t);
-          onward = λ i. rw (g .named);
+              (left (length (W .nodes)) w ws d (r .rows refl (r .parts .uncut (λ j. omega arith))));
+          parts = no-cut successor (g .named) (λ q. omega arith) (λ i q. omega arith);
           more = λ i. omega arith;
           nodes = rw (g .named) (r .nodes);
           start = λ i. rw (g .named) (r .start (λ j. omega arith));
@@ -343,24 +348,23 @@ module _ (M : Model) (W : Table) (words : List ℕ) where
           head = λ i. absurd (not-one rowOpeners o (tableNumber noKind) within refl i);
           behind = λ i. absurd (not-one rowOpeners o (tableNumber node) within refl i);
           rows = λ i u. none-due (d .rows) (g .rows);
-          uncut = λ i. rw (g .named);
-          cuts = λ i t. false-true (rw (g .named) at t);
-          onward = λ i. rw (g .named);
+          parts = no-cut startNode (g .named) (λ q. omega arith) (λ i q. omega arith);
           more = λ i. omega arith;
           nodes = rw (g .named) (r .nodes);
           start = λ i. rw (g .named) (number-there startNode (inr refl) g);
         }
     stands-with cut g n e r =
         let last = behind-only cut o (g .follows) value tt in
-        let two = r .rows refl (r .uncut (λ j. omega arith)) .0 in
+        let two = r .rows refl (r .parts .uncut (λ j. omega arith)) .0 in
         record {
           head = λ i. absurd (omega arith);
           behind = λ i. absurd (omega arith);
           rows = λ i u. false-true (sym u ∙ rw (g .named));
-          uncut = λ i. absurd (i last);
-          cuts = λ i t L same.
-              cut-stands L (rw same at (g .rows)) (good-cut g) (rw (r .onward refl) at two);
-          onward = λ i. absurd (omega arith);
+          parts = record {
+            uncut = λ i. absurd (i last);
+            cuts = λ i t L same. cut-stands L (rw same at (g .rows)) (good-cut g) (rw (r .parts .onward refl) at two);
+            onward = λ i. absurd (omega arith);
+          };
           more = λ i. omega arith;
           nodes = rw (g .named) (r .nodes);
           start = λ i. rw (g .named) (r .start (λ j. omega arith));
@@ -380,9 +384,7 @@ module _ (M : Model) (W : Table) (words : List ℕ) where
         head = λ i. absurd (omega arith);
         behind = λ i. absurd (omega arith);
         rows = λ i u. absurd (not-one rowOpeners o (tableNumber startNode) i refl last);
-        uncut = λ i. refl;
-        cuts = λ i t. absurd (omega arith);
-        onward = λ i. refl;
+        parts = record { uncut = λ i. refl; cuts = λ i t. absurd (omega arith); onward = λ i. refl };
         more = λ i. absurd (i last);
         nodes = empty;
         start = λ i. absurd (i last);

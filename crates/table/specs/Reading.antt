@@ -46,7 +46,7 @@ allDue M l = record { rows = edgeCounts (rowActions (locationAt M l)); begun = 0
 unfoldable pub dueAfterRow : Due → Due
 dueAfterRow d = record { rows = drop 1 (d .rows); begun = 0; target = d .target }
 
--- a B completes a row where it is the last of its action's edges
+-- a B completes a row where it is the last of its B words
 unfoldable pub dueAfterSuccessor : Due → Due
 dueAfterSuccessor d =
     cond (eqb (suc (d .begun)) (getD (d .rows) 0 0)) (dueAfterRow d) (record { rows = d .rows; begun = suc (d .begun); target = d .target })

@@ -20,7 +20,7 @@ pub(crate) struct Seen {
     pub nodes: usize, // how many there are
     pub location: u32, // of the last node
     pub target: bool, // behind its value: whether that location is a target
-    pub action: usize, // the first action of the last node whose row is not complete
+    pub action: usize, // the first action of the last node whose row is not complete; 0 behind a cut
     pub rows: usize, // how many rows of the last node are not complete; the two successors of a cut count as one
     pub size: usize, // how many successors the first of them has, unless it is blocked; 0 where none is due
     pub begun: usize, // how many of those stand
@@ -73,7 +73,7 @@ impl Seen {
         place: 0,
     };
 
-    // Whether the rows that are still due let a word of that kind stand here.
+    // Whether the rows that are still due or, for a cut, the location let a word of that kind stand here.
     pub(crate) fn rows_allow(self, word: u32) -> bool
         ensures { λ r. ⌜ r ≡ rowsAllowAt? self word ⌝ }
     {

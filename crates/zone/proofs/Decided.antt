@@ -34,8 +34,8 @@ use Rattle.zone.proofs.Regions.{
   stands-withBound,
   empty-yes,
   empty-no,
-  inside-yes,
-  inside-no,
+  lies-yes,
+  lies-no,
 }
 
 -- ---- the table that is read stands for the zone of the words
@@ -107,31 +107,29 @@ module _ (C : ℕ) (first second : List ℕ) where
       (inclusionAnswer (insideFrom (readZone C first) (readZone C second)))
   unfolding insideFrom inclusionAnswer readZone
   included h =
-      by (readZone C first .good) (readZone C second .good) (empty? (tightened (readZone C first .zone)))
-      (inside? (tightened (readZone C first .zone)) (readZone C second .zone)) refl refl refl refl
+      by (readZone C first .good) (readZone C second .good)
+      (empty? (tightened (readZone C first .zone)) || inside? (tightened (readZone C first .zone)) (readZone C second .zone)) refl refl refl
     where
       behind : (a : Answer Bool) → readZone C first .good ≡ true → First (boundChecks 33 C 0 second) Includes a →
           First (boundChecks 32 C 0 first ++ boundChecks 33 C 0 second) Includes a
       behind a p x = first-join (boundChecks 32 C 0 first) (boundChecks 33 C 0 second) Includes a (read-good 32 C first 0 universe p) x
 
-      by : (g f e i : Bool) → readZone C first .good ≡ g → readZone C second .good ≡ f → empty? (tightened (readZone C first .zone)) ≡ e →
-          inside? (tightened (readZone C first .zone)) (readZone C second .zone) ≡ i →
+      by : (g f i : Bool) → readZone C first .good ≡ g → readZone C second .good ≡ f →
+          (empty? (tightened (readZone C first .zone)) || inside? (tightened (readZone C first .zone)) (readZone C second .zone)) ≡ i →
           First (boundChecks 32 C 0 first ++ boundChecks 33 C 0 second) Includes
           (inclusionAnswer (cond g
-          (cond f (cond (e || i) inclusion.Inside inclusion.NotInside) (inclusion.BadSecondBound (readZone C second .place)))
+          (cond f (cond i inclusion.Inside inclusion.NotInside) (inclusion.BadSecondBound (readZone C second .place)))
           (inclusion.BadBound (readZone C first .place))))
-      by false f e i p q r s =
+      by false f i p q r =
           first-before (boundChecks 32 C 0 first) (boundChecks 33 C 0 second) Includes Includes 32 (readZone C first .place)
           (read-bad 32 C Includes first 0 universe p)
-      by true false e i p q r s = behind (refused 33 (readZone C second .place)) p (read-bad 33 C Includes second 0 universe q)
-      by true true true i p q r s = behind (accepted true) p (first-all (boundChecks 33 C 0 second) Includes true (read-good 33 C second 0 universe q)
-          ((λ _. record { at = λ k k₁ v m. absurd (empty-yes (tightens-read C first) (read-stands C h first p) r .at k k₁ v m) }), λ _. tt))
-      by true true false true p q r s =
+      by true false i p q r = behind (refused 33 (readZone C second .place)) p (read-bad 33 C Includes second 0 universe q)
+      by true true true p q r =
           behind (accepted true) p (first-all (boundChecks 33 C 0 second) Includes true (read-good 33 C second 0 universe q)
-          ((λ _. inside-yes (tightens-read C first) (read-stands C h first p) (read-stands C h second q) s), λ _. tt))
-      by true true false false p q r s =
+          ((λ _. lies-yes (tightens-read C first) (read-stands C h first p) (read-stands C h second q) r), λ _. tt))
+      by true true false p q r =
           behind (accepted false) p (first-all (boundChecks 33 C 0 second) Includes false (read-good 33 C second 0 universe q)
-          ((λ f. absurd f), λ m. inside-no (tightens-read C first) (read-stands C h first p) (read-stands C h second q) r s m))
+          ((λ f. absurd f), λ m. lies-no (tightens-read C first) (read-stands C h first p) (read-stands C h second q) r m))
 
   pub decided-inside : AskedInside C first second (inclusionAnswer (decideInside C first second))
   unfolding decideInside inclusionAnswer clockCheck

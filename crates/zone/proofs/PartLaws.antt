@@ -1,22 +1,21 @@
 -- Laws of a zone that is cut in two by a bound: the part where the bound holds, and the rest. Assumes nothing.
 use Prim.Native.Nat.{ℕ, _<_, _^_}
-use mathlib.Core.Path.{_≡_, refl, ap, subst}
-use mathlib.Core.Bool.{Bool, true, false, not, _||_}
+use mathlib.Core.Path.{_≡_, ap, subst}
+use mathlib.Core.Bool.{not}
 use native.Mathlib.Omega.{arith}
 use lib.Dec.{T}
 use lib.IntN.{ℤ, natAbs, negℤ}
-use Rattle.zone.specs.Scale.{Bound, holds?, Region, Inside}
+use Rattle.zone.specs.Scale.{Bound, holds?, Region}
 use Rattle.zone.specs.Words.{boundOf}
 use Rattle.zone.specs.Cells.{negated, size}
-use Rattle.zone.specs.Squares.{withBound, tightened, empty?, inside?, Tightens}
+use Rattle.zone.specs.Squares.{withBound, tightened, Tightens}
 use Rattle.zone.specs.Reading.{cellOf, withWord}
 use Rattle.zone.specs.Parts.{holdingSquare, restSquare, CutBy}
 use Rattle.zone.specs.declared.bounds.Bound.{Bound as Cell}
 use Rattle.zone.specs.declared.zones.Zone.{Zone as Square}
-use Rattle.zone.proofs.Bools.{true-false}
 use Rattle.zone.proofs.Integers.{abs-parts, up-neg, dn-neg}
 use Rattle.zone.proofs.KeyLaws.{opposite, key-opposite, opposite-holds, size-cellOf}
-use Rattle.zone.proofs.Regions.{Stands, inBoth, stands-same, stands-withBound, empty-yes, inside-yes, inside-no}
+use Rattle.zone.proofs.Regions.{Stands, inBoth, stands-same, stands-withBound}
 use Rattle.zone.proofs.Sizes.{tightens-fewer, tightens-withBound}
 
 -- where a bound does not hold
@@ -42,22 +41,6 @@ module _ (b : Bound) where
   pub tightens-rest : (z : Square) → natAbs (b .d) < 4096 → Tightens 3 z → Tightens 3 (withBound (b .j) (b .i) (negated (cellOf b)) z)
   tightens-rest z h s =
       subst (λ (c : Cell). Tightens 3 (withBound (b .j) (b .i) c z)) cell-opposite (tightens-withBound (opposite b) z (number-opposite h) s)
-
--- ---- whether a part lies inside a region: an empty one lies inside any
-module _ {R S : Region} {y z : Square} (fits : Tightens 1 y) (s : Stands R y) (t : Stands S z) where
-  pub part-yes : (empty? (tightened y) || inside? (tightened y) z) ≡ true → Inside R S
-  part-yes = by (empty? (tightened y)) refl
-    where
-      by : (c : Bool) → empty? (tightened y) ≡ c → (c || inside? (tightened y) z) ≡ true → Inside R S
-      by true e h = record { at = λ k k₁ v r. absurd (empty-yes fits s e .at k k₁ v r) }
-      by false e h = inside-yes fits s t h
-
-  pub part-no : (empty? (tightened y) || inside? (tightened y) z) ≡ false → Inside R S → ⊥
-  part-no = by (empty? (tightened y)) refl
-    where
-      by : (c : Bool) → empty? (tightened y) ≡ c → (c || inside? (tightened y) z) ≡ false → Inside R S → ⊥
-      by true e h m = true-false h
-      by false e h m = inside-no fits s t e h m
 
 -- ---- what the code works out: a zone with the bound of a word, and with its negation
 module _ {w i j : ℕ} {b : Cell} {z : Square} (a : CutBy w z) (ei : i ≡ boundOf w .i) (ej : j ≡ boundOf w .j) (eb : b ≡ cellOf (boundOf w)) where

@@ -15,7 +15,7 @@ use Rattle.zone.specs.Squares.{cell, universe, withBound, met, tightened
 use Rattle.zone.specs.Reading.{cellOf}
 use Rattle.zone.specs.declared.bounds.Bound.{Bound as Cell}
 use Rattle.zone.specs.declared.zones.Zone.{Zone as Square}
-use Rattle.zone.proofs.Bools.{false-true}
+use Rattle.zone.proofs.Bools.{true-false, false-true}
 use Rattle.zone.proofs.Limits.{none, bounds}
 use Rattle.zone.proofs.KeyLaws.{limitOf, holds→, →holds, limit-cellOf}
 use Rattle.zone.proofs.SquareTables.{
@@ -212,3 +212,18 @@ module _ {R S : Region} {y z : Square} (fits : Tightens 1 y) (s : Stands R y) (t
       cells i j hi hj = bound-least bounds (good-close bounds (s .based) (tightened-ok fits s e)) hi hj (tableOf z i j)
           (λ k k₁ v v₀ p. rw (read-same v v₀) at
           (t .into k k₁ v (m .at k k₁ v (s .out k k₁ v (rw (read-same v v₀) (in-close bounds 5 (tableOf y) k₁ p))))) .at i j hi hj)
+
+  -- an empty region lies inside any
+  pub lies-yes : (empty? (tightened y) || inside? (tightened y) z) ≡ true → Inside R S
+  lies-yes = by (empty? (tightened y)) refl
+    where
+      by : (c : Bool) → empty? (tightened y) ≡ c → (c || inside? (tightened y) z) ≡ true → Inside R S
+      by true e h = record { at = λ k k₁ v r. absurd (empty-yes fits s e .at k k₁ v r) }
+      by false e h = inside-yes h
+
+  pub lies-no : (empty? (tightened y) || inside? (tightened y) z) ≡ false → Inside R S → ⊥
+  lies-no = by (empty? (tightened y)) refl
+    where
+      by : (c : Bool) → empty? (tightened y) ≡ c → (c || inside? (tightened y) z) ≡ false → Inside R S → ⊥
+      by true e h m = true-false h
+      by false e h m = inside-no e h m
