@@ -77,7 +77,7 @@ holdingPart N b k v = within (N .zone) k v × T (holds? k v b)
 unfoldable pub restPart : Node → Bound → Region
 restPart N b k v = within (N .zone) k v × T (not (holds? k v b))
 
--- the successor's number is above the node's own, n
+-- the successor's number is above the node's own, n: a cut takes no step
 abbrev pub IsAbove : ℕ → Successor → Type 0
 IsAbove n s = n < s .node
 
@@ -97,7 +97,7 @@ pub record PartFits (W : Table) (n : ℕ) (N : Node) (P : Region) (s : Successor
   pub matching : Matches W N s
   pub inside : HoldsPart W P s
 
--- the node's location is no target
+-- a cut of the node numbered n, whose location is no target
 pub record CutFits (M : Model) (W : Table) (n : ℕ) (N : Node) (c : Cut) : Type 0 where
   pub elsewhere : T (not (locationAt M (N .location) .target))
   pub holding : PartFits W n N (holdingPart N (c .bound)) (c .holding)

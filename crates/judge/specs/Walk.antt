@@ -93,7 +93,7 @@ module _ (words : List ℕ) (m : ModelKept) (k : TableKept) where
       let size : ℕ = rowSize (isTable blocked (getD words at 0)) (edgesAt (m .index) a) in
       Tightens 1 (zoneAt (m .zones) (guardsAt + a)) × (at < length words) × (at + size ≤ length words) × RowsInRange n (suc a) (at + size)
 
-  -- the stores, and where a node, whose entry is N, stands in them
+  -- the stores, with the node n, whose entry is N, in them
   pub record StoresAsked (n : ℕ) (N : NodeEntry) : Type 0 where
     pub model : ModelStoresFit (m .edges) (m .zones)
     pub table : TableStoresFit (k .nodes) (k .zones)
@@ -101,7 +101,7 @@ module _ (words : List ℕ) (m : ModelKept) (k : TableKept) where
     pub number : n < 64
     pub location : N .location < 16
 
-  -- its rows
+  -- the rows of that node
   pub record RowsAsked (n : ℕ) (N : NodeEntry) : Type 0 where
     pub stores : StoresAsked n N
     pub zone : Tightens 2 (zoneAt (k .zones) n)
@@ -113,13 +113,13 @@ module _ (words : List ℕ) (m : ModelKept) (k : TableKept) where
         let first : ℕ = getD (m .index .actions) l 0 in
         RowsInRange (getD (m .index .actions) (l + 1) 0 - first) first (suc (N .place))
 
-  -- behind its value a word stands, that of its cut or not
+  -- its rows or its cut: behind its value a word stands, and a D word is that of a cut
   pub record BodyAsked (n : ℕ) (N : NodeEntry) : Type 0 where
     pub there : suc (N .place) < length words
     pub parts : isTable cut (getD words (suc (N .place)) 0) ≡ true → CutAsked words k n (suc (N .place))
     pub rows : isTable cut (getD words (suc (N .place)) 0) ≡ false → RowsAsked n N
 
-  -- where its location is no target
+  -- the node n; its rows or its cut are read where its location is no target
   pub record NodeAsked (n : ℕ) : Type 0 where
     pub stores : StoresAsked n (entryAt (k .nodes) n)
     pub body : getD (m .index .targets) (entryAt (k .nodes) n .location) false ≡ false → BodyAsked n (entryAt (k .nodes) n)
