@@ -142,18 +142,19 @@ pub is-sum :
 unfolding sum
 is-sum a b h k x e = ap (λ (z : ℤ). record { key = z }) (rest-back (a .key) (b .key) h k x e)
 
--- ---- the negation: 1 less the key
-module _ (a : ℤ) (h : mag a < 5 * 2 ^ 27) where
+-- ---- a small number less the key, and the negation: 1 less the key
+module _ (n : ℕ) (few : n < 4) (a : ℤ) (h : mag a < 5 * 2 ^ 27) where
   abbrev less : ℤ
-  less = pos 1 -ℤ toZ w32 (ofZ w32 a)
+  less = pos n -ℤ toZ w32 (ofZ w32 a)
 
-  less-is : less ≡ pos 1 -ℤ a
+  less-is : less ≡ pos n -ℤ a
   less-is = rw (back32 a (omega arith)) refl
 
   pub less-fits : SFits w32 less
   less-fits =
-      rw less-is (record { sfits = let g = mag-add (pos 1) (negℤ a) {m = 2} (omega arith) (mag-neg a h) in omega arith })
+      rw less-is (record { sfits = let g = mag-add (pos n) (negℤ a) {m = 4} (omega arith) (mag-neg a h) in omega arith })
 
-pub is-negated : (a : Cell) (h : mag (a .key) < 5 * 2 ^ 27) → record { key = toZ w32 (ofZ w32 (less (a .key) h)) } ≡ negated a
+pub is-negated : (a : Cell) (h : mag (a .key) < 5 * 2 ^ 27) → record { key = toZ w32 (ofZ w32 (less 1 (omega arith) (a .key) h)) } ≡ negated a
 unfolding negated
-is-negated a h = ap (λ (z : ℤ). record { key = z }) (toZ-ofZ (less-fits (a .key) h) ∙ less-is (a .key) h)
+is-negated a h =
+    ap (λ (z : ℤ). record { key = z }) (toZ-ofZ (less-fits 1 (omega arith) (a .key) h) ∙ less-is 1 (omega arith) (a .key) h)
