@@ -1,8 +1,9 @@
 -- The theorems about what is meant, none of which uses a later one: the parts of a cut, demand 3, what pins the
--- count, acceptance and checks, and that they agree.
+-- count, acceptance and checks, that they agree, and the fractions that tables give.
 pub mod SchedulerLaws
 pub mod CutLaws
 pub mod Demand3
 pub mod CountLaws
 pub mod Agreement
 pub mod Exact
+pub mod Fractions
