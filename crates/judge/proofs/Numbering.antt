@@ -1,6 +1,7 @@
 -- A verdict can be told from what it says, and in numbers it says the same. Assumes nothing.
 use mathlib.Core.Path.{_≡_, refl}
 use mathlib.Core.Bool.{cond}
+use borrow.Author.Tests.{eq-eqb, ne-eqb}
 use lib.Dec.{eqb}
 use Rattle.zone.specs.Checks.{Answer, refused, accepted}
 use Rattle.judge.specs.Verdicts.{verdictAnswer}
@@ -68,3 +69,12 @@ told v = by-case v .0
 
 pub says : (v : Verdict) {r : Numbered} → r ≡ numbered (verdictAnswer v) → numberedAnswer r ≡ verdictAnswer v
 says v e = rw e (by-case v .1)
+
+-- by the number
+pub not-zero : (n : Numbered) → (n .number ≡ 0 → ⊥) → numberedAnswer n ≡ refused (n .number) (n .place)
+unfolding numberedAnswer
+not-zero n h = rw (ne-eqb (n .number) 0 h)
+
+pub is-zero : (n : Numbered) → n .number ≡ 0 → numberedAnswer n ≡ accepted (n .certificate)
+unfolding numberedAnswer
+is-zero n e = rw (eq-eqb (n .number) 0 e)

@@ -4,12 +4,9 @@ use mathlib.Core.Path.{_≡_, refl, ap, _∙_}
 use mathlib.Core.Bool.{Bool, true, false}
 use mathlib.Core.List.{List, [], _∷_, _++_}
 use native.Mathlib.Omega.{arith}
-use borrow.Author.Tests.{eq-eqb, ne-eqb}
 use mir.Val.{boolByte}
 use lib.ListN.{length, drop, set}
-use Rattle.zone.specs.Checks.{Answer, refused, accepted}
-use Rattle.judge.proofs.Numbering.{numberedAnswer}
-use Rattle.judge.specs.declared.numbers.Numbered.{Numbered}
+use Rattle.zone.specs.Checks.{Answer}
 use Rattle.miss_chance.specs.Replies.{answerWords, yesWords, Replies}
 use Rattle.miss_chance.specs.Held.{replyWords}
 use Rattle.miss_chance.specs.declared.replies.Reply.{Reply}
@@ -26,15 +23,6 @@ four-written (x ∷ []) a b c d h = absurd (omega arith)
 four-written (x ∷ y ∷ []) a b c d h = absurd (omega arith)
 four-written (x ∷ y ∷ z ∷ []) a b c d h = absurd (omega arith)
 four-written (x ∷ y ∷ z ∷ w ∷ xs) a b c d h = refl
-
--- what a number says
-pub not-zero : (n : Numbered) → (n .number ≡ 0 → ⊥) → numberedAnswer n ≡ refused (n .number) (n .place)
-unfolding numberedAnswer
-not-zero n h = rw (ne-eqb (n .number) 0 h)
-
-pub is-zero : (n : Numbered) → n .number ≡ 0 → numberedAnswer n ≡ accepted (n .certificate)
-unfolding numberedAnswer
-is-zero n e = rw (eq-eqb (n .number) 0 e)
 
 -- ---- what a call replies
 

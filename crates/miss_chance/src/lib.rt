@@ -1,12 +1,22 @@
-// The four calls for C and Rust. Each writes its answer to the first four words of a slice that the caller lends, and returns true; where
-// the slice has fewer than four it writes nothing and returns false. A slice passes as a pointer and then a length.
+// The six calls for C and Rust. A slice passes as a pointer and then a length. Each of document 01's four writes its answer to the first four words of a
+// slice that the caller lends, and returns true; where the slice has fewer than four it writes nothing and returns false. The two of the board, document 02,
+// card 3, hand structs over and back by value; they are the one place where a slice of slots is taken, so they are the calls from Rattle too.
 mod replies; // replies.rt: each answer as four words
 
 ghost use Rattle.zone.specs.Questions.{AskedEmpty, AskedInside};
 ghost use Rattle.model.specs.Reading.{ReadModel};
+ghost use Rattle.board.specs.Board.{board};
+ghost use Rattle.board.specs.Replies.{submission, Submits, Ranks};
 ghost use Rattle.miss_chance.specs.Replies.{Replies, Verdicts, certificateWords, countsWords, yesWords};
+use board::ranking;
+use board::ranking::Ranking;
+use board::submissions;
+use board::submissions::Ledger;
+use board::submissions::Request;
+use board::submissions::Submitted;
 use judge::verdict;
 use model::read;
+use slots::Slot;
 use zone::questions;
 
 // Judges a table against a model.
@@ -66,4 +76,29 @@ pub extern "C" fn miss_chance_zone_inside(
         answer,
     );
     true
+}
+
+// Submits a table for a slot. A submission that gets as far as the judge spends one of the allowance, and an accepted one writes the slot.
+#[no_mangle]
+pub extern "C" fn miss_chance_submit(
+    slots: &mut [Slot],
+    ledger: Ledger,
+    request: Request,
+    model: &[u32],
+    table: &[u32],
+) -> Submitted
+    ensures { λ r. ⌜ Submits (board (now (slots .entry)) ledger) (submission request (now (model .entry)) (now (table .entry))) r (now (slots .exit)) ⌝ }
+{
+    let lent = slots::load(slots);
+    let decision = submissions::decide(lent, ledger, request, model, table);
+    slots::put(slots, decision.at, decision.slot);
+    decision.submitted
+}
+
+// The held slots in rank.
+#[no_mangle]
+pub extern "C" fn miss_chance_rank(slots: &[Slot]) -> Ranking
+    ensures { λ r. ⌜ Ranks (now (slots .entry)) r ⌝ }
+{
+    ranking::ranked(slots::load(slots))
 }

@@ -1,7 +1,6 @@
 -- Proof of `of_verdict`: no refusal has the number 0, so the test of the number tells a refusal from an acceptance.
 use borrow.Author.Needs.{needs}
-use Rattle.judge.proofs.Numbering.{says}
-use Rattle.miss_chance.proofs.ReplyLaws.{not-zero, is-zero}
+use Rattle.judge.proofs.Numbering.{says, not-zero, is-zero}
 use Rattle.miss_chance.proofs.replies.of_verdict.Statement.{statement}
 use Rattle.miss_chance.proofs.replies.of_verdict.Tie as tie
 

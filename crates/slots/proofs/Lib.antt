@@ -1,0 +1,3 @@
+-- The laws of `slots`: what is had after each turn of `load`, and how a slice is lent on for a call; proofs of functions stand in folders of their own.
+pub mod LoadLaws
+pub mod Shared
