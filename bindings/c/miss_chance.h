@@ -76,9 +76,14 @@ enum miss_chance_number {
     MISS_CHANCE_BAD_SECOND_BOUND = 33, /* a word of the second zone is no good bound; place: in its list */
 
     /* A cut, which the table has in place of a node's rows; the place is the B word of the part. */
-    MISS_CHANCE_PART_NOT_ABOVE = 51, /* the number of the part's node is not above the cut node's */
-    MISS_CHANCE_PART_MISMATCH = 52,  /* the part's node has another location or a larger value than the cut node */
-    MISS_CHANCE_PART_NOT_INSIDE = 53 /* the part is not inside its node's zone */
+    MISS_CHANCE_PART_NOT_ABOVE = 51,  /* the number of the part's node is not above the cut node's */
+    MISS_CHANCE_PART_MISMATCH = 52,   /* the part's node has another location or a larger value than the cut node */
+    MISS_CHANCE_PART_NOT_INSIDE = 53, /* the part is not inside its node's zone */
+
+    /* A board, before the judge is asked; the place is 0. */
+    MISS_CHANCE_BOARD_OUT_OF_RANGE = 54, /* not 16 slots, a held slot out of range, or allowance, team or slot number out of range */
+    MISS_CHANCE_ALLOWANCE_SPENT = 55,    /* the allowance is spent */
+    MISS_CHANCE_SLOT_HELD_BY_OTHER = 56  /* another team holds the slot */
 };
 
 /*

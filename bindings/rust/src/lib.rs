@@ -1,7 +1,9 @@
-//! The miss-chance judge: four calls over lists of 32-bit words, as document 01 ("The miss-chance
-//! judge: timelines, tables and the bound they certify") and document 02, the change requests to
-//! it, define them; docs/FORMAT.md of the repository says what the words are. The work is done by a
-//! verified library; this crate lends it slices and turns its answers into enums.
+//! The miss-chance judge: six calls, as document 01 ("The miss-chance judge: timelines, tables and
+//! the bound they certify") and document 02, the change requests to it, define them. Four are over
+//! lists of 32-bit words, of which docs/FORMAT.md of the repository says what they are: [`judge`],
+//! [`read_model`], [`zone_empty`] and [`zone_inside`]. Two are over a board of slots that takes its
+//! fractions from the judge alone: [`submit`] and [`rank`], which [`Board`] puts together. The work
+//! is done by a verified library; this crate lends it slices and turns its answers into enums.
 //!
 //! Document 01's worked timeline and its table:
 //!
@@ -36,8 +38,8 @@
 //! ```
 //!
 //! Every input has an answer. A word is a number, so words from a file, highest byte first, are put
-//! together first (`u32::from_be_bytes`). The calls keep no state, allocate nothing and may run in
-//! several threads at once. A thread with 256 KiB of stack is enough: [`judge`] takes about
+//! together first (`u32::from_be_bytes`). The calls keep no state but what the caller lends, allocate
+//! nothing and may run in several threads at once. A thread with 256 KiB of stack is enough: [`judge`] takes about
 //! 16 KiB, [`read_model`] 7 KiB, the two questions 1 KiB, whatever the input.
 //!
 //! # The library
@@ -54,26 +56,32 @@
 #![deny(missing_docs)]
 #![deny(unsafe_code)]
 
+mod board;
 mod model;
 #[cfg(test)]
 mod numbers_test;
+mod ranking;
 #[allow(unsafe_code)]
 mod raw;
 mod reason;
 mod refusal;
+mod slots;
 mod verdict;
 mod words;
 mod zone;
 
+pub use board::Board;
 pub use model::{Counts, ModelAnswer};
+pub use ranking::{RankAnswer, Ranking};
 pub use reason::Reason;
 pub use refusal::Refusal;
+pub use slots::{Ledger, Slot, SLOTS};
 pub use verdict::{Certificate, Verdict};
 pub use zone::{Emptiness, Inclusion};
 
 /// Judges a table against a model. The model's refusal, if any, comes first.
 pub fn judge(model: &[u32], table: &[u32]) -> Verdict {
-    Verdict::from_words(raw::judge(model, table))
+    Verdict::of_judge(raw::judge(model, table))
 }
 
 /// Reads a model.
@@ -90,4 +98,40 @@ pub fn zone_empty(clocks: u32, zone: &[u32]) -> Emptiness {
 /// Asks whether the first zone lies inside the second at every scale.
 pub fn zone_inside(clocks: u32, first: &[u32], second: &[u32]) -> Inclusion {
     Inclusion::from_words(raw::zone_inside(clocks, first, second))
+}
+
+/// Submits a team's table for a slot of a board whose slots and ledger the caller keeps; a [`Board`]
+/// keeps them by itself. One allowance serves all teams, and each submission that gets to the judge
+/// spends one of it. An acceptance is written to the slot, which is the team's from then on; a team
+/// may write over its own slot, also with a larger fraction.
+///
+/// # Errors
+///
+/// Before the judge, with nothing spent or written, in this order: 54 where `slots` are not 16
+/// ([`SLOTS`]), a held one has a team above 7 or a fraction that no table could give (V of 0 or
+/// above 268,435,455, b above V), or the allowance is above a fresh ledger's, the team above 7 or the
+/// slot above 15; 55 where the allowance is spent; 56 where another team holds the slot. Then those
+/// of [`judge`], the model's included: one is spent, as for an acceptance, and no slot is written.
+pub fn submit(
+    slots: &mut [Slot],
+    ledger: &mut Ledger,
+    team: u32,
+    slot: u32,
+    model: &[u32],
+    table: &[u32],
+) -> Verdict {
+    let (words, left) = raw::submit(slots, *ledger, team, slot, model, table);
+    *ledger = left;
+    Verdict::of_submission(words)
+}
+
+/// Gives the numbers of the held slots in rank: the smaller fraction first, of equal ones, 1/2 and
+/// 2/4 as well, the lower slot number.
+///
+/// # Errors
+///
+/// 54 where `slots` are not 16 ([`SLOTS`]), or a held one has a team above 7 or a fraction that no
+/// table could give.
+pub fn rank(slots: &[Slot]) -> RankAnswer {
+    RankAnswer::from_ranked(&raw::rank(slots))
 }

@@ -4,8 +4,9 @@ use std::fmt::Debug;
 use std::fs::read_to_string;
 use std::panic::catch_unwind;
 
+use crate::raw::Ranked;
 use crate::words::Words;
-use crate::{Emptiness, Inclusion, ModelAnswer, Reason, Refusal, Verdict};
+use crate::{Emptiness, Inclusion, ModelAnswer, RankAnswer, Reason, Refusal, Verdict, SLOTS};
 
 /// Of the numbers 1 to 99 those listed give a refusal with the same number, the others panic.
 fn check<A: Debug>(read: fn(Words) -> A, refusal: fn(A) -> Option<Refusal>, listed: &[u32]) {
@@ -28,7 +29,10 @@ fn check<A: Debug>(read: fn(Words) -> A, refusal: fn(A) -> Option<Refusal>, list
 #[test]
 fn numbers_of_each_answer() {
     let verdicts: Vec<u32> = (1..=6).chain(11..=21).chain(51..=53).collect();
-    check(Verdict::from_words, Verdict::refusal, &verdicts);
+    let submissions: Vec<u32> = verdicts.iter().copied().chain(54..=56).collect();
+    check(Verdict::of_judge, Verdict::refusal, &verdicts);
+    check(Verdict::of_submission, Verdict::refusal, &submissions);
+    check(rank_refused, RankAnswer::refusal, &[54]);
     check(
         ModelAnswer::from_words,
         ModelAnswer::refusal,
@@ -47,13 +51,60 @@ fn neither_yes_nor_no() {
 #[test]
 #[should_panic(expected = "libmiss_chance.a answered judge with [0, 4294967296, 10, 3]")]
 fn a_value_over_32_bits() {
-    let _ = Verdict::from_words([0, 1 << 32, 10, 3]);
+    let _ = Verdict::of_judge([0, 1 << 32, 10, 3]);
 }
 
 #[test]
 #[should_panic(expected = "libmiss_chance.a answered judge with [4294967297, 0, 0, 0]")]
 fn a_number_over_32_bits() {
-    let _ = Verdict::from_words([(1 << 32) + 1, 0, 0, 0]);
+    let _ = Verdict::of_judge([(1 << 32) + 1, 0, 0, 0]);
+}
+
+/// A ranking that is refused with these words.
+fn rank_refused(words: Words) -> RankAnswer {
+    RankAnswer::from_ranked(&Ranked {
+        number: words[0] as u32,
+        place: words[1] as usize,
+        count: 0,
+        order: [0; SLOTS],
+    })
+}
+
+/// A ranking that begins with a slot.
+fn ranked(count: usize, first: usize) -> RankAnswer {
+    let mut order = [0; SLOTS];
+    order[0] = first;
+    RankAnswer::from_ranked(&Ranked {
+        number: 0,
+        place: 0,
+        count,
+        order,
+    })
+}
+
+#[test]
+fn as_many_as_there_are_slots() {
+    let full = ranked(16, 15).result().expect("ranked");
+    assert_eq!((full.len(), full[0]), (16, 15));
+}
+
+#[test]
+#[should_panic(expected = "broken link: libmiss_chance.a answered rank with Ranked { number: 0")]
+fn more_than_there_are_slots() {
+    let _ = ranked(17, 15);
+}
+
+#[test]
+#[should_panic(expected = "broken link: libmiss_chance.a answered rank with Ranked { number: 0")]
+fn a_slot_that_is_not_there() {
+    let _ = ranked(1, 16);
+}
+
+/// Numbers behind the count are no part of it.
+#[test]
+fn behind_the_count() {
+    assert_eq!(ranked(0, 16), ranked(0, 0));
+    assert_eq!(ranked(0, 16).to_string(), "RANKED");
 }
 
 /// A file of the repository around this package.

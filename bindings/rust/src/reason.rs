@@ -57,6 +57,10 @@ reasons! {
     PartNotAbove = 51: "a part's node has a number not above the cut node's", "its B word";
     PartMismatch = 52: "a part's node has another location or a larger value than the cut node", "its B word";
     PartNotInside = 53: "a part of the cut node's zone is not inside its node's zone", "its B word";
+
+    BoardOutOfRange = 54: "not 16 slots, a held slot out of range, or allowance, team or slot number out of range", "0";
+    AllowanceSpent = 55: "the allowance is spent", "0";
+    SlotHeldByOther = 56: "another team holds the slot", "0";
 }
 
 impl Reason {

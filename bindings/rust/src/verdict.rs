@@ -16,7 +16,8 @@ pub struct Certificate {
     pub nodes: usize,
 }
 
-/// The answer of [`judge`](crate::judge). It prints as document 01's program prints it,
+/// The answer of [`judge`](crate::judge) and of a submission ([`submit`](crate::submit),
+/// [`Board::submit`](crate::Board::submit)). It prints as document 01's program prints it,
 /// `ACCEPTED b V nodes` or `REFUSED number place`.
 #[derive(Clone, Copy, Debug, PartialEq, Eq)]
 #[must_use = "the table may be refused"]
@@ -24,7 +25,7 @@ pub enum Verdict {
     /// The table is accepted.
     Accepted(Certificate),
     /// The model is refused, with 1 to 6 and a place in the model, or else the table, with 11 to 21
-    /// or 51 to 53 and a place in the table.
+    /// or 51 to 53 and a place in the table. A submission may be refused before that, with 54 to 56.
     Refused(Refusal),
 }
 
@@ -43,20 +44,29 @@ impl Verdict {
         self.result().err()
     }
 
-    pub(crate) fn from_words(words: Words) -> Verdict {
-        const CALL: &str = "judge";
+    pub(crate) fn of_judge(words: Words) -> Verdict {
+        Verdict::from_words("judge", numbers_of_judge(), words)
+    }
+
+    pub(crate) fn of_submission(words: Words) -> Verdict {
+        Verdict::from_words("submit", numbers_of_judge().chain(54..=56), words)
+    }
+
+    fn from_words(call: &str, numbers: impl Iterator<Item = u32>, words: Words) -> Verdict {
         match words[0] {
             0 => Verdict::Accepted(Certificate {
-                b: value(CALL, words, 1),
-                whole: value(CALL, words, 2),
-                nodes: value(CALL, words, 3),
+                b: value(call, words, 1),
+                whole: value(call, words, 2),
+                nodes: value(call, words, 3),
             }),
-            _ => {
-                let numbers = (1..=6).chain(11..=21).chain(51..=53);
-                Verdict::Refused(Refusal::from_words(CALL, numbers, words))
-            }
+            _ => Verdict::Refused(Refusal::from_words(call, numbers, words)),
         }
     }
+}
+
+/// The refusals of `judge`.
+fn numbers_of_judge() -> impl Iterator<Item = u32> {
+    (1..=6).chain(11..=21).chain(51..=53)
 }
 
 impl fmt::Display for Verdict {
