@@ -1,30 +1,33 @@
 /*
- * The miss-chance judge, for C and C++: four calls over lists of 32-bit words, as document 01 ("The miss-chance judge: timelines, tables
- * and the bound they certify") and document 02, the change requests to it, define them; docs/FORMAT.md of the repository says what the words
- * are, docs/REFUSALS.md what each refusal means. Link with target/staticlib/libmiss_chance.a, which `rt staticlib miss_chance` proves and
- * writes at the repository's root (x86-64, System V calling convention).
+ * The miss-chance judge, for C and C++: four calls over lists of 32-bit words and two over a board of slots, as document 01 ("The miss-chance
+ * judge: timelines, tables and the bound they certify") and document 02, the change requests to it, define them; docs/FORMAT.md of the
+ * repository says what the words are, docs/REFUSALS.md what each refusal means. Link with target/staticlib/libmiss_chance.a, which
+ * `rt staticlib miss_chance` proves and writes at the repository's root (x86-64, System V calling convention).
  *
- * THE ANSWER. Each call writes its answer to the first four words of `answer` and returns true:
+ * THE ANSWER. Each of the four calls writes its answer to the first four words of `answer` and returns true:
  *
  *   word 0             word 1    word 2   word 3
  *   0 (acceptance)     value     value    value    the values that the call gives, zeros where it gives fewer than three
  *   refusal's number   place     0        0        the place is a word index from 0, or the length where a word is lacking
  *
  * All four are written each time, so nothing of an earlier answer stays in them. Words of `answer` behind the fourth are left as they are.
- * If `answer_words` is below MISS_CHANCE_ANSWER_WORDS, nothing is written and the call returns false; it never returns false otherwise.
+ * If `answer_words` is below MISS_CHANCE_ANSWER_WORDS, nothing is written and the call returns false; it never returns false otherwise. The two
+ * calls of the board return their answer as a struct.
  *
- * WHAT THE CALLER OWES. Every list is a pointer and a length in words, not in bytes. Each pointer must be non-null and aligned for its type
- * (4 bytes for uint32_t, 8 for uint64_t), for a list of length 0 too, and the words must stay readable and unchanged, those of `answer`
- * writable, until the call returns. `answer` must not overlap a list that is read; lists that are only read may overlap. A list may hold any
- * words and have any length: every input has an answer. A word is a number, so words from a file, highest byte first, are put together first.
+ * WHAT THE CALLER OWES. Every list is a pointer and a length in words or slots, not in bytes. Each pointer must be non-null and aligned for
+ * its type (4 bytes for uint32_t and slots, 8 for uint64_t), for a list of length 0 too, and the list must stay readable and unchanged,
+ * `answer` and the slots of a submission writable, until the call returns. These two must not overlap a list that is read; lists that are only
+ * read may overlap. A list may hold any words and have any length: every input has an answer. Of a slot, `held` must be 0 or 1, as C has it of
+ * a bool; its other fields may be anything. A word is a number, so words from a file, highest byte first, are put together first.
  *
- * WHAT THE CALLS DO NOT DO. They read the lists and write `answer`, and touch nothing else of the caller's. They keep no pointer and no state
- * between calls, allocate nothing, and are safe from several threads at once, as long as no two share an `answer`. Of the C library they
- * need memcpy and memset, which the linker finds as for any C program.
+ * WHAT THE CALLS DO NOT DO. They read the lists and write `answer`, or the slot of a submission that is accepted, and touch nothing else of
+ * the caller's. They keep no pointer and no state between calls, allocate nothing, and are safe from several threads at once, as long as no
+ * two share an `answer` and none uses slots while another submits for them. Of the C library they need memcpy and memset, which the linker
+ * finds as for any C program.
  *
  * STACK. The need is bounded and does not grow with the input: there is no recursion, and every frame has a fixed size. Measured on
- * x86-64: about 16 KiB for miss_chance_judge, 7 KiB for miss_chance_read_model, 1 KiB for the two others. A thread with 256 KiB of stack is
- * enough for each of them.
+ * x86-64: about 16 KiB for miss_chance_judge, 7 KiB for miss_chance_read_model, 1 KiB for the two questions about zones. A thread with
+ * 256 KiB of stack is enough for each call.
  */
 #ifndef MISS_CHANCE_H
 #define MISS_CHANCE_H
@@ -41,8 +44,8 @@ extern "C" {
 #define MISS_CHANCE_ANSWER_WORDS 4
 
 /*
- * Word 0 of an answer: the numbers of documents 01 and 02, each with one name, the one that it has in the Rust package too. Later versions
- * may add some; whatever is not 0 is a refusal.
+ * Word 0 of an answer, or its `number`: the numbers of documents 01 and 02, each with one name, the one that it has in the Rust package too.
+ * Later versions may add some; whatever is not 0 is a refusal.
  */
 enum miss_chance_number {
     MISS_CHANCE_ACCEPTED = 0,
@@ -108,6 +111,79 @@ bool miss_chance_zone_empty(uint32_t clocks, const uint32_t *zone, size_t zone_w
  */
 bool miss_chance_zone_inside(uint32_t clocks, const uint32_t *first, size_t first_words, const uint32_t *second, size_t second_words,
                              uint64_t *answer, size_t answer_words);
+
+/*
+ * A BOARD (document 02, card 3), so that a priority engine takes its fractions from the judge alone: MISS_CHANCE_SLOTS slots and a ledger, both
+ * the caller's, who lends the slots and hands the ledger from one submission to the next. Fresh, every slot is all zeros and the allowance is
+ * MISS_CHANCE_ALLOWANCE. From a fresh board on, if nobody else writes them, a slot shows the last accepted submission for it, or is vacant
+ * without one. board.c beside this file is a whole example.
+ */
+
+/* How many slots a board has, numbered from 0. */
+#define MISS_CHANCE_SLOTS 16
+
+/* How many submissions a fresh board may hand to the judge, over all teams together. */
+#define MISS_CHANCE_ALLOWANCE 100
+
+/* A slot: vacant, or held by a team with the fraction that the judge certified for it. What a vacant one has in its other fields is not read. */
+struct miss_chance_slot {
+    bool held;
+    uint32_t team;  /* 0 to 7 */
+    uint32_t b;     /* b / V is the certified fraction, not reduced */
+    uint32_t whole; /* V */
+};
+
+/* What submissions spend. */
+struct miss_chance_ledger {
+    uint32_t allowance; /* how many are left */
+};
+
+/* Who submits, and for which slot. */
+struct miss_chance_request {
+    uint32_t team; /* 0 to 7 */
+    uint32_t slot; /* 0 to 15 */
+};
+
+/* The judge's answer, or 54 to 56 in its place. Acceptance: 0, 0, b, V, node count. Refusal: its number and place, zeros behind them. */
+struct miss_chance_reply {
+    uint32_t number; /* enum miss_chance_number */
+    size_t place;
+    uint32_t b;
+    uint32_t whole;
+    size_t nodes;
+};
+
+/* What a submission comes to. */
+struct miss_chance_submitted {
+    struct miss_chance_reply answer;
+    struct miss_chance_ledger ledger; /* as it is then: hand in this one next time */
+};
+
+/* The held slots in rank. Refusal: 54, place 0, and zeros behind them. */
+struct miss_chance_ranking {
+    uint32_t number; /* enum miss_chance_number */
+    size_t place;
+    size_t count;                    /* how many slots are held */
+    size_t order[MISS_CHANCE_SLOTS]; /* their numbers are the first `count`, zeros behind them */
+};
+
+/*
+ * Submits a team's table for a slot. Acceptance: the slot becomes held, with the team and the certified fraction, and one of the allowance is
+ * spent; a team may write over its own slot, also with a larger fraction. Refusals before the judge, place 0, with nothing spent and no slot
+ * written: 54 where `slot_count` is not MISS_CHANCE_SLOTS, a held slot has a team above 7 or a fraction that no table could give (V of 0 or
+ * above 268,435,455, b above V), the allowance is above MISS_CHANCE_ALLOWANCE, the team above 7 or the slot above 15; then 55 where the
+ * allowance is 0; then 56 where another team holds the slot. Behind them those of miss_chance_judge, the model's included: one is spent, and no
+ * slot is written.
+ */
+struct miss_chance_submitted miss_chance_submit(struct miss_chance_slot *slots, size_t slot_count, struct miss_chance_ledger ledger,
+                                                struct miss_chance_request request, const uint32_t *model, size_t model_words,
+                                                const uint32_t *table, size_t table_words);
+
+/*
+ * Gives the numbers of the held slots in rank: the smaller fraction first, of equal ones, 1/2 and 2/4 as well, the lower slot number. Refusal:
+ * 54, for `slot_count` and the held slots as above.
+ */
+struct miss_chance_ranking miss_chance_rank(const struct miss_chance_slot *slots, size_t slot_count);
 
 #ifdef __cplusplus
 }
