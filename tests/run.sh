@@ -19,12 +19,18 @@ for methods in 'impl Bound' 'impl Zone'; do # by their source: document 02, card
 done
 echo '== the Rust package'
 cargo test --release --quiet --locked --offline --manifest-path bindings/rust/Cargo.toml
+board=$'ACCEPTED 2 10 3\nACCEPTED 1 10 3\nREFUSED 56 0\nRANKED 9 4' # the example of a board says the same in Rust and in C
+said=$(cargo run --release --quiet --locked --offline --manifest-path bindings/rust/Cargo.toml --example board)
+[[ $said = "$board" ]] || { echo "the Rust example of a board said: $said"; exit 1; }
 tests/rust_package.sh
 echo '== C and C++'
+declare -A wanted=([example]=$'ACCEPTED 1 10 3\nREFUSED 19 4' [board]=$board)
 for compiler in 'gcc -std=c99' 'g++ -std=c++11'; do # g++ takes a .c file as C++
-    $compiler -Wall -Wextra -pedantic -Werror -Ibindings/c bindings/c/example.c target/staticlib/libmiss_chance.a -o target/c_example
-    said=$(target/c_example)
-    [[ $said = $'ACCEPTED 1 10 3\nREFUSED 19 4' ]] || { echo "the C example, by $compiler, said: $said"; exit 1; }
+    for name in "${!wanted[@]}"; do
+        $compiler -Wall -Wextra -pedantic -Werror -Ibindings/c "bindings/c/$name.c" target/staticlib/libmiss_chance.a -o target/c_example
+        said=$(target/c_example)
+        [[ $said = "${wanted[$name]}" ]] || { echo "bindings/c/$name.c, by $compiler, said: $said"; exit 1; }
+    done
 done
 echo '== ./judge'
 tests/judge_script.sh
