@@ -52,9 +52,9 @@ impl Board {
         }
     }
 
-    /// A board as it was, from what [`slots`](Board::slots) and [`ledger`](Board::ledger) gave then.
-    /// Ranges are all that can be seen in them: that the judge certified the fractions rests on
-    /// where they were kept.
+    /// A board as it was, from what [`slots`](Board::slots) and [`ledger`](Board::ledger) gave
+    /// then. Ranges are all that can be seen in them: that the judge certified the fractions rests
+    /// on where they were kept.
     ///
     /// # Errors
     ///

@@ -38,9 +38,10 @@
 //! ```
 //!
 //! Every input has an answer. A word is a number, so words from a file, highest byte first, are put
-//! together first (`u32::from_be_bytes`). The calls keep no state but what the caller lends, allocate
-//! nothing and may run in several threads at once. A thread with 256 KiB of stack is enough: [`judge`] takes about
-//! 16 KiB, [`read_model`] 7 KiB, the two questions 1 KiB, whatever the input.
+//! together first (`u32::from_be_bytes`). The calls keep no state but what the caller lends,
+//! allocate nothing and may run in several threads at once. A thread with 256 KiB of stack is
+//! enough for each: [`judge`] takes about 16 KiB, [`read_model`] 7 KiB, the two questions 1 KiB,
+//! whatever the input.
 //!
 //! # The library
 //!
@@ -100,18 +101,19 @@ pub fn zone_inside(clocks: u32, first: &[u32], second: &[u32]) -> Inclusion {
     Inclusion::from_words(raw::zone_inside(clocks, first, second))
 }
 
-/// Submits a team's table for a slot of a board whose slots and ledger the caller keeps; a [`Board`]
-/// keeps them by itself. One allowance serves all teams, and each submission that gets to the judge
-/// spends one of it. An acceptance is written to the slot, which is the team's from then on; a team
-/// may write over its own slot, also with a larger fraction.
+/// Submits a team's table for a slot of a board whose slots and ledger the caller keeps; a
+/// [`Board`] keeps them by itself. One allowance serves all teams, and each submission that gets to
+/// the judge spends one of it. An acceptance is written to the slot, which is the team's from then
+/// on; a team may write over its own slot, also with a larger fraction.
 ///
 /// # Errors
 ///
 /// Before the judge, with nothing spent or written, in this order: 54 where `slots` are not 16
 /// ([`SLOTS`]), a held one has a team above 7 or a fraction that no table could give (V of 0 or
-/// above 268,435,455, b above V), or the allowance is above a fresh ledger's, the team above 7 or the
-/// slot above 15; 55 where the allowance is spent; 56 where another team holds the slot. Then those
-/// of [`judge`], the model's included: one is spent, as for an acceptance, and no slot is written.
+/// above 268,435,455, b above V), or the allowance is above a fresh ledger's, the team above 7 or
+/// the slot above 15; 55 where the allowance is spent; 56 where another team holds the slot. Then
+/// those of [`judge`], the model's included: one is spent, as for an acceptance, and no slot is
+/// written.
 pub fn submit(
     slots: &mut [Slot],
     ledger: &mut Ledger,

@@ -25,7 +25,8 @@ pub enum Verdict {
     /// The table is accepted.
     Accepted(Certificate),
     /// The model is refused, with 1 to 6 and a place in the model, or else the table, with 11 to 21
-    /// or 51 to 53 and a place in the table. A submission may be refused before that, with 54 to 56.
+    /// or 51 to 53 and a place in the table. A submission may be refused before that, with 54 to
+    /// 56.
     Refused(Refusal),
 }
 

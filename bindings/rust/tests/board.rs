@@ -168,7 +168,7 @@ fn allowance_team_and_slot_out_of_range() {
     }
 }
 
-/// 100 submissions get to the judge, whoever makes them and whatever it says, and the 101st does not.
+/// 100 submissions get to the judge, whoever makes them and whatever it says; the 101st does not.
 #[test]
 fn the_allowance_is_spent() {
     let mut board = Board::new();
