@@ -21,23 +21,7 @@ use Rattle.board.specs.declared.submissions.Ledger.{Ledger}
 use Rattle.board.specs.declared.submissions.Request.{Request}
 use Rattle.board.specs.declared.submissions.Decision.{Decision}
 use Rattle.board.specs.Board.{allGood?, goodSlots?, goodLedger?, spend, board}
-use Rattle.board.specs.Submissions.{
-  Submission,
-  submitted,
-  inRange?,
-  unspent?,
-  mayWrite?,
-  mayTake?,
-  Says,
-  Put,
-  leaves,
-  puts,
-  putOf,
-  written,
-  judged?,
-  ledgerAfter,
-  Does,
-}
+use Rattle.board.specs.Submissions.{Submission, submitted, inRange?, unspent?, mayWrite?, mayTake?, Says, Put, leaves, puts, putOf, written, judged?, ledgerAfter}
 use Rattle.board.specs.Replies.{submission, replyOf, Submits}
 use Rattle.board.specs.Deciding.{goodLent?, lentInRange?, Declines, Grants, Writes, Decides}
 use Rattle.board.proofs.Tests.{no, first-of, second-of, some-fails, all-hold}

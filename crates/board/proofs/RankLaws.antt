@@ -6,13 +6,12 @@ use mathlib.Core.Path.{_≡_, refl, sym, ap, subst, _∙_}
 use mathlib.Core.Logic.{_⊎_, inl, inr, ⊎-elim}
 use mathlib.Core.Bool.{Bool, true, false, not, cond, _&&_, _||_}
 use mathlib.Core.List.{List, [], _∷_, _++_}
-use lib.Dec.{T, eqb, eqb→eq, eqb-refl}
+use lib.Dec.{T}
 use lib.ListN.{length, getD, set, take, replicate, length-set, length-take}
 use lib.Seq.{getD-set-same, getD-set-other, getD-take}
 use Rattle.slots.specs.declared.Slot.{Slot}
 use Rattle.slots.specs.Slots.{slotAt}
 use Rattle.board.specs.Ranking.{ahead?, held?, InRank}
-use Rattle.zone.specs.Checks.{accepted}
 use Rattle.board.specs.Replies.{rankingOf}
 use Rattle.board.specs.Ordering.{left?, FirstLeft, Orders}
 use Rattle.board.specs.declared.ranking.Pick.{Pick}

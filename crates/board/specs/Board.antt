@@ -4,10 +4,19 @@ use mathlib.Core.Bool.{Bool, true, not, _&&_, _||_}
 use mathlib.Core.List.{List, [], _∷_}
 use lib.Dec.{eqb, leb}
 use lib.ListN.{length}
+use Rattle.zone.specs.Checks.{accepted}
+use Rattle.acceptance.specs.Judging.{Judged}
 use Rattle.slots.specs.declared.Slot.{Slot}
 use Rattle.board.specs.declared.submissions.Ledger.{Ledger}
 
--- a fraction that a table could give: V from 1 to 268,435,455, b up to V. That tables give exactly these is a theorem (`Fractions`, of `acceptance`)
+-- a table gives the fraction b/V: it is accepted with that fraction for some model
+pub record Gives (b whole : ℕ) : Type 0 where
+  pub model : List ℕ
+  pub table : List ℕ
+  pub nodes : ℕ
+  pub judged : Judged model table (accepted (record { b = b; whole = whole; nodes = nodes }))
+
+-- a fraction that a table could give, in numbers: V from 1 to 268,435,455 and b up to V. That this is the same is a theorem, `could-give`
 abbrev pub couldGive? : ℕ → ℕ → Bool
 couldGive? b whole = leb 1 whole && (leb whole 268435455 && leb b whole)
 

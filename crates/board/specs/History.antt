@@ -1,14 +1,19 @@
 -- Document 02, card 3: for every list of submissions from a fresh board, a slot shows its last accepted one, or is vacant without one. Assumes nothing.
 use Prim.Native.Nat.{ℕ, _<_}
 use mathlib.Core.Path.{_≡_}
-use mathlib.Core.Bool.{Bool, false, cond}
+use mathlib.Core.Bool.{false, cond}
 use mathlib.Core.List.{List, [], _∷_}
+use mathlib.Core.Option.{Option, none, some}
 use lib.Dec.{eqb}
 use lib.ListN.{length}
+use Rattle.zone.specs.Checks.{refused, accepted}
+use Rattle.model.specs.Model.{modelOf}
+use Rattle.acceptance.specs.declared.certificate.Certificate.{Certificate}
+use Rattle.acceptance.specs.Schedulers.{BoundsEvery}
 use Rattle.slots.specs.declared.Slot.{Slot}
-use Rattle.slots.specs.Slots.{slotAt}
+use Rattle.slots.specs.Slots.{holding, slotAt}
 use Rattle.board.specs.Board.{Board}
-use Rattle.board.specs.Submissions.{Turn, Put, leaves, puts, putOf, Does}
+use Rattle.board.specs.Submissions.{Submission, Turn, submitted, Does}
 
 -- every slot is vacant, and the allowance is whole
 pub record Fresh (B : Board) : Type 0 where
@@ -18,27 +23,32 @@ pub record Fresh (B : Board) : Type 0 where
 
 -- a board, what is done at it in order, and the board then
 pub data History : Board → List Turn → Board → Type 0 where
-  none : {B : Board} → History B [] B
+  start : {B : Board} → History B [] B
   then : {B after last : Board} {t : Turn} {ts : List Turn} → Does B t after → History after ts last → History B (t ∷ ts) last
 
--- what a slot shows: it is vacant, or has a team and a fraction
-pub data Shown : Type 0 where
-  nothing : Shown
-  fraction : (team b whole : ℕ) → Shown
+-- an accepted submission, and what it certified
+pub record Grant : Type 0 where
+  pub made : Submission
+  pub certificate : Certificate
 
-unfoldable pub shown : Slot → Shown
-shown x = cond (x .held) (fraction (x .team) (x .b) (x .whole)) nothing
+-- the last accepted submission for slot n after a turn, where it was `before`
+unfoldable pub lastAfter : ℕ → Option Grant → Turn → Option Grant
+lastAfter n before (submitted s (refused m p)) = before
+lastAfter n before (submitted s (accepted c)) = cond (eqb (s .slot) n) (some (record { made = s; certificate = c })) before
 
--- what slot n shows after a turn, where it showed `before`
-unfoldable pub putInto : ℕ → Shown → Put → Shown
-putInto n before leaves = before
-putInto n before (puts m x) = cond (eqb m n) (shown x) before
-
--- the last accepted submission for slot n; `before` without one
-unfoldable pub lastOf : ℕ → Shown → List Turn → Shown
+-- and after a list of them
+unfoldable pub lastOf : ℕ → Option Grant → List Turn → Option Grant
 lastOf n before [] = before
-lastOf n before (t ∷ ts) = lastOf n (putInto n before (putOf t)) ts
+lastOf n before (t ∷ ts) = lastOf n (lastAfter n before t) ts
 
--- every slot shows it
+-- a slot shows it, or is vacant without one
+abbrev pub Shows : Option Grant → Slot → Type 0
+Shows none x = x .held ≡ false
+Shows (some g) x = x ≡ holding (g .made .team) (g .certificate .b) (g .certificate .whole)
+
 pub record ShowsLast (ts : List Turn) (B : Board) : Type 0 where
-  pub shows : (n : ℕ) → n < 16 → shown (slotAt (B .slots) n) ≡ lastOf n nothing ts
+  pub shows : (n : ℕ) → n < 16 → Shows (lastOf n none ts) (slotAt (B .slots) n)
+
+-- what it certified bounds every scheduler of the model that was submitted with it
+pub record BoundsLast (ts : List Turn) : Type 0 where
+  pub bounds : (n : ℕ) (g : Grant) → lastOf n none ts ≡ some g → BoundsEvery (modelOf (g .made .model)) (g .certificate .b) (g .certificate .whole)

@@ -1,18 +1,15 @@
-use Prim.Native.Nat.{ℕ, _≤_, _<_, _+_, _-_}
+use Prim.Native.Nat.{_≤_, _+_, _-_}
 use mathlib.Core.Path.{_≡_, sym, subst}
 use native.Mathlib.Omega.{arith}
 use borrow.Author.Needs.{needs}
-use lib.Dec.{T, eqb}
+use lib.Dec.{eqb}
 use Rattle.board.specs.Board.{allGood?}
-use Rattle.board.specs.Ordering.{FirstLeft, picked}
+use Rattle.board.specs.Ordering.{FirstLeft}
 use Rattle.board.proofs.Tests.{second-of}
 use Rattle.board.proofs.OrderLaws.{positive-of}
 use Rattle.board.proofs.PickLaws.{none-yet, one-more}
 use Rattle.board.proofs.ranking.next.Statement.{statement}
 use Rattle.board.proofs.ranking.next.Tie as tie
-use Rattle.board.proofs.ranking.next.Reads as reads
-use Rattle.board.proofs.ranking.next.Lts as lts
-use Rattle.board.proofs.ranking.better.Reads as better-reads
 
 abbrev Inv-loop : tie.InvT-loop
 Inv-loop lent last best₀ m₀ best m = (m ≤ 16) × FirstLeft (lent .slots) last m best

@@ -1,11 +1,11 @@
-use Prim.Native.Nat.{ℕ, _≤_, _<_, _+_, _-_}
-use mathlib.Core.Path.{_≡_, refl, sym, subst}
+use Prim.Native.Nat.{ℕ, _≤_, _<_, _-_}
+use mathlib.Core.Path.{_≡_, refl, subst}
 use native.Mathlib.Omega.{arith}
 use borrow.Author.Needs.{needs}
 use mathlib.Core.Bool.{Bool, true, false, not, cond, _&&_}
 use mathlib.Core.Logic.{_⊎_, inl, inr}
 use lib.Dec.{T, eqb, ltb, ltb→lt, nltb→le}
-use lib.ListN.{length, length-map, getD}
+use lib.ListN.{length, length-map}
 use Rattle.slots.specs.Slots.{slotAt}
 use Rattle.board.specs.Ranking.{held?}
 use Rattle.board.specs.Board.{allGood?}
@@ -14,9 +14,6 @@ use Rattle.board.proofs.OrderLaws.{positive-of}
 use Rattle.board.proofs.RankLaws.{zero-at, Sofar, begun, one-listed, orders}
 use Rattle.board.proofs.ranking.ordered.Statement.{statement}
 use Rattle.board.proofs.ranking.ordered.Tie as tie
-use Rattle.board.proofs.ranking.ordered.Reads as reads
-use Rattle.board.proofs.ranking.ordered.Lts as lts
-use Rattle.board.proofs.ranking.next.Reads as next-reads
 
 abbrev Inv-loop : tie.InvT-loop
 Inv-loop lent order₀ count₀ found₀ order count found = Sofar (lent .slots) order count found

@@ -1,17 +1,13 @@
 -- Proof of `decide`: at each return the checks before it are known, and `DecisionLaws` says what the submission then comes to.
 use Prim.Native.Nat.{_<_}
 use native.Mathlib.Omega.{arith}
-use mathlib.Core.Path.{_≡_, sym, ap, subst, _∙_}
-use mathlib.Core.Bool.{not}
-use mathlib.Core.List.{List}
+use mathlib.Core.Path.{sym, subst}
 use lib.Dec.{T}
 use borrow.Author.Needs.{needs}
 use Rattle.acceptance.specs.Judging.{Judged, BoundsSchedulers}
-use Rattle.judge.proofs.Numbering.{numberedAnswer, says}
-use Rattle.slots.specs.declared.Lent.{Lent}
+use Rattle.judge.proofs.Numbering.{says}
 use Rattle.slots.specs.Slots.{slotAt}
 use Rattle.board.specs.declared.submissions.Ledger.{Ledger}
-use Rattle.board.specs.declared.submissions.Request.{Request}
 use Rattle.board.specs.Submissions.{mayWrite?}
 use Rattle.board.specs.Deciding.{lentInRange?, Declines, Grants}
 use Rattle.board.proofs.Tests.{yes, shown}

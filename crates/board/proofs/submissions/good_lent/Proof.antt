@@ -1,4 +1,4 @@
-use Prim.Native.Nat.{ℕ, _≤_, _<_, _+_, _-_}
+use Prim.Native.Nat.{_≤_, _+_, _-_}
 use mathlib.Core.Path.{_≡_, refl, sym, ap, _∙_}
 use mathlib.Core.Bool.{_&&_}
 use native.Mathlib.Omega.{arith}
@@ -10,9 +10,6 @@ use Rattle.board.specs.Deciding.{goodLent?}
 use Rattle.board.proofs.SlotLaws.{good-on, good-end}
 use Rattle.board.proofs.submissions.good_lent.Statement.{statement}
 use Rattle.board.proofs.submissions.good_lent.Tie as tie
-use Rattle.board.proofs.submissions.good_lent.Reads as reads
-use Rattle.board.proofs.submissions.good_lent.Lts as lts
-use Rattle.board.proofs.submissions.good_slot.Reads as good-slot-reads
 
 abbrev Inv-loop : tie.InvT-loop
 Inv-loop lent good₀ i₀ good i = (i ≤ 16) × ((length (lent .slots) ≡ 16) × ((good && allGood? (drop i (lent .slots))) ≡ goodLent? lent))

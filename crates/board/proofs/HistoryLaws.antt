@@ -1,0 +1,176 @@
+-- Document 02, card 3: what holds of every list of submissions from a fresh board. A slot shows its last accepted one; what that certified bounds every
+-- scheduler; and 54 never comes from the board itself. Assumes nothing.
+use Prim.Native.Nat.{ℕ, zero, suc, _<_, _≤_, _-_}
+use native.Mathlib.Omega.{arith}
+use mathlib.Core.Path.{_≡_, sym, ap, subst, _∙_}
+use mathlib.Core.Logic.{inl, inr}
+use mathlib.Core.Bool.{Bool, true, false, not, cond, _&&_}
+use mathlib.Core.List.{List, [], _∷_}
+use mathlib.Core.Option.{Option, none, some}
+use lib.Dec.{T, eqb, eqb→eq, eqb-refl, ltb, lt→ltb, leb, leb→le, le→leb}
+use lib.ListN.{length, set, length-set}
+use lib.Seq.{getD-set-same, getD-set-other}
+use Rattle.zone.specs.Checks.{Answer, refused, accepted, Check}
+use Rattle.zone.proofs.Bools.{by-test, and}
+use Rattle.zone.proofs.CheckLaws.{AllHold}
+use Rattle.model.specs.Model.{modelOf}
+use Rattle.acceptance.specs.declared.certificate.Certificate.{Certificate}
+use Rattle.acceptance.specs.Judging.{Judged}
+use Rattle.acceptance.specs.Schedulers.{BoundsEvery}
+use Rattle.acceptance.proofs.Exact.{promised}
+use Rattle.slots.specs.declared.Slot.{Slot}
+use Rattle.slots.specs.Slots.{vacant, holding, slotAt}
+use Rattle.board.specs.declared.submissions.Ledger.{Ledger}
+use Rattle.board.specs.Board.{couldGive?, goodSlot?, every?, allGood?, goodSlots?, goodLedger?, spend, Board}
+use Rattle.board.specs.Submissions.{Submission, Turn, submitted, inRange?, boardChecks, Then, Says, putOf, written, judged?, ledgerAfter, Does}
+use Rattle.board.specs.History.{Fresh, History, start, then, Grant, lastAfter, lastOf, Shows, ShowsLast, BoundsLast}
+use Rattle.board.proofs.Tests.{first-of, second-of, or-left}
+use Rattle.board.proofs.GivenLaws.{could-give}
+
+-- ---- an accepted submission
+
+-- it passed the checks before the judge
+pub then-accepted : {A : Type 0} (cs : List Check) (P : Answer A → Type 0) (x : A) → Then cs P (accepted x) → AllHold cs × P (accepted x)
+then-accepted [] P x h = (tt, h)
+then-accepted (c ∷ cs) P x (inl h) = let r = then-accepted cs P x (h .1) in ((h .0, r .0), r .1)
+then-accepted (c ∷ cs) P x (inr h) = let z : _≡_ {A = ℕ} 0 1 = cc (h .1) in absurd (omega arith)
+
+module _ (B : Board) (s : Submission) (c : Certificate) (h : Says B (submitted s (accepted c))) where
+  pub in-range : T (inRange? B s)
+  in-range = then-accepted (boardChecks B s) (Judged (s .model) (s .table)) c h .0 .0
+
+  pub judged : Judged (s .model) (s .table) (accepted c)
+  judged = then-accepted (boardChecks B s) (Judged (s .model) (s .table)) c h .1
+
+-- ---- what a slot shows
+
+apart : (m n : ℕ) → eqb m n ≡ false → n ≡ m → ⊥
+apart m n e f = subst T e (subst (λ (k : ℕ). T (eqb m k)) (sym f) (eqb-refl m))
+
+-- after one turn
+turned : (B after : Board) (t : Turn) → Does B t after → (n : ℕ) → n < length (B .slots) → (g : Option Grant) → Shows g (slotAt (B .slots) n) →
+    Shows (lastAfter n g t) (slotAt (after .slots) n)
+unfolding lastAfter putOf written
+turned B after (submitted s (refused m p)) h n l g k = subst (λ (ss : List Slot). Shows g (slotAt ss n)) (sym (h .slots)) k
+turned B after (submitted s (accepted c)) h n l g k =
+    subst (λ (ss : List Slot). Shows (cond (eqb (s .slot) n) (some (record { made = s; certificate = c })) g) (slotAt ss n)) (sym (h .slots))
+    (by-test (λ (x : Option Grant). Shows x (slotAt (set (B .slots) (s .slot) new) n)) (eqb (s .slot) n) (some (record { made = s; certificate = c })) g here there)
+  where
+    new : Slot
+    new = holding (s .team) (c .b) (c .whole)
+
+    here : eqb (s .slot) n ≡ true → slotAt (set (B .slots) (s .slot) new) n ≡ new
+    here e = ap (λ (i : ℕ). slotAt (set (B .slots) i new) n) (eqb→eq (s .slot) n (subst T (sym e) tt)) ∙ getD-set-same (B .slots) n new vacant l
+
+    there : eqb (s .slot) n ≡ false → Shows g (slotAt (set (B .slots) (s .slot) new) n)
+    there e = subst (Shows g) (sym (getD-set-other (B .slots) (s .slot) n new vacant (apart (s .slot) n e))) k
+
+same-length : (B after : Board) (t : Turn) → Does B t after → length (after .slots) ≡ length (B .slots)
+unfolding putOf written
+same-length B after (submitted s (refused m p)) h = ap length (h .slots)
+same-length B after (submitted s (accepted c)) h = ap length (h .slots) ∙ length-set (B .slots) (s .slot) (holding (s .team) (c .b) (c .whole))
+
+-- after a list of them
+shows-on : {B last : Board} {ts : List Turn} → History B ts last → (n : ℕ) → n < length (B .slots) → (g : Option Grant) → Shows g (slotAt (B .slots) n) →
+    Shows (lastOf n g ts) (slotAt (last .slots) n)
+unfolding lastOf
+shows-on start n l g k = k
+shows-on (then {B} {after} {last} {t} {ts} h hs) n l g k =
+    shows-on hs n (subst (λ (i : ℕ). n < i) (sym (same-length B after t h)) l) (lastAfter n g t) (turned B after t h n l g k)
+
+pub shows-last : {B last : Board} {ts : List Turn} → Fresh B → History B ts last → ShowsLast ts last
+shows-last f h = record { shows = λ n l. shows-on h n (subst (λ (i : ℕ). n < i) (sym (f .sixteen)) l) none (f .vacant n l) }
+
+-- ---- the bound over every scheduler
+
+abbrev Bounded : Option Grant → Type 0
+Bounded none = Unit {0}
+Bounded (some g) = BoundsEvery (modelOf (g .made .model)) (g .certificate .b) (g .certificate .whole)
+
+bounded-turn : (B after : Board) (t : Turn) → Does B t after → (n : ℕ) (g : Option Grant) → Bounded g → Bounded (lastAfter n g t)
+unfolding lastAfter
+bounded-turn B after (submitted s (refused m p)) h n g k = k
+bounded-turn B after (submitted s (accepted c)) h n g k =
+    by-test Bounded (eqb (s .slot) n) (some (record { made = s; certificate = c })) g (λ e. promised (s .model) (s .table) (accepted c) (judged B s c (h .says)))
+    (λ e. k)
+
+bounded-on : {B last : Board} {ts : List Turn} → History B ts last → (n : ℕ) (g : Option Grant) → Bounded g → Bounded (lastOf n g ts)
+unfolding lastOf
+bounded-on start n g k = k
+bounded-on (then {B} {after} {last} {t} {ts} h hs) n g k = bounded-on hs n (lastAfter n g t) (bounded-turn B after t h n g k)
+
+pub bounds-last : {B last : Board} {ts : List Turn} → History B ts last → BoundsLast ts
+bounds-last h = record { bounds = λ n g e. subst Bounded e (bounded-on h n none tt) }
+
+-- ---- 54 never comes from the board itself
+
+pub record InRange (B : Board) : Type 0 where
+  pub slots : T (goodSlots? (B .slots))
+  pub ledger : T (goodLedger? (B .ledger))
+
+every-set : {A : Type 0} (f : A → Bool) (xs : List A) (n : ℕ) (x : A) → T (every? f xs) → T (f x) → T (every? f (set xs n x))
+unfolding every?
+every-set f [] n x g h = g
+every-set f (y ∷ xs) zero x g h = and (f x) (every? f xs) h (second-of (f y) (every? f xs) g)
+every-set f (y ∷ xs) (suc n) x g h =
+    and (f y) (every? f (set xs n x)) (first-of (f y) (every? f xs) g) (every-set f xs n x (second-of (f y) (every? f xs) g) h)
+
+-- the slots
+slots-stay : (B : Board) (t : Turn) → Says B t → T (goodSlots? (B .slots)) → T (goodSlots? (written (B .slots) (putOf t)))
+unfolding putOf written
+slots-stay B (submitted s (refused n p)) h g = g
+slots-stay B (submitted s (accepted c)) h g =
+    and (eqb (length (set (B .slots) (s .slot) new)) 16) (allGood? (set (B .slots) (s .slot) new))
+    (subst (λ (k : ℕ). T (eqb k 16)) (sym (length-set (B .slots) (s .slot) new)) (first-of (eqb (length (B .slots)) 16) (allGood? (B .slots)) g))
+    (every-set (λ (x : Slot). goodSlot? x) (B .slots) (s .slot) new (second-of (eqb (length (B .slots)) 16) (allGood? (B .slots)) g)
+    (and (leb (s .team) 7) (couldGive? (c .b) (c .whole)) team (could-give (c .b) (c .whole) .1 (record { model = s .model; table = s .table; nodes = c .nodes; judged = judged B s c h }))))
+  where
+    new : Slot
+    new = holding (s .team) (c .b) (c .whole)
+
+    team : T (leb (s .team) 7)
+    team =
+        first-of (leb (s .team) 7) (ltb (s .slot) 16) (second-of (goodLedger? (B .ledger)) (leb (s .team) 7 && ltb (s .slot) 16)
+        (second-of (goodSlots? (B .slots)) (goodLedger? (B .ledger) && (leb (s .team) 7 && ltb (s .slot) 16)) (in-range B s c h)))
+
+-- the allowance
+ledger-stays : (B : Board) (t : Turn) → T (goodLedger? (B .ledger)) → T (goodLedger? (ledgerAfter B t))
+unfolding ledgerAfter
+ledger-stays B (submitted s a) g = by-test (λ (l : Ledger). T (goodLedger? l)) (judged? B s) (spend (B .ledger)) (B .ledger) (λ e. less) (λ e. g)
+  where
+    less : T (goodLedger? (spend (B .ledger)))
+    less = let m : B .ledger .allowance ≤ 100 = leb→le (B .ledger .allowance) 100 g in le→leb (B .ledger .allowance - 1) 100 (omega arith)
+
+stays : {B last : Board} {ts : List Turn} → History B ts last → InRange B → InRange last
+stays start g = g
+stays (then {B} {after} {last} {t} {ts} h hs) g =
+    stays hs (record {
+      slots = subst (λ (ss : List Slot). T (goodSlots? ss)) (sym (h .slots)) (slots-stay B t (h .says) (g .slots));
+      ledger = subst (λ (l : Ledger). T (goodLedger? l)) (sym (h .ledger)) (ledger-stays B t (g .ledger));
+    })
+
+vacant-good : (ss : List Slot) → ((n : ℕ) → n < length ss → slotAt ss n .held ≡ false) → T (allGood? ss)
+unfolding every?
+vacant-good [] h = tt
+vacant-good (x ∷ ss) h =
+    and (goodSlot? x) (allGood? ss) (or-left (not (x .held)) (leb (x .team) 7 && couldGive? (x .b) (x .whole)) (subst (λ (b : Bool). T (not b)) (sym (h 0 (omega arith))) tt))
+    (vacant-good ss (λ n l. h (suc n) (omega arith)))
+
+fresh : {B : Board} → Fresh B → InRange B
+fresh {B} f = record {
+  slots = and (eqb (length (B .slots)) 16) (allGood? (B .slots)) (subst (λ (n : ℕ). T (eqb n 16)) (sym (f .sixteen)) tt)
+      (vacant-good (B .slots) (λ n l. f .vacant n (subst (λ (k : ℕ). n < k) (f .sixteen) l)));
+  ledger = subst (λ (n : ℕ). T (leb n 100)) (sym (f .allowance)) tt;
+}
+
+-- so ranking never gives it
+pub rank-in-range : {B last : Board} {ts : List Turn} → Fresh B → History B ts last → T (goodSlots? (last .slots))
+rank-in-range f h = stays h (fresh f) .slots
+
+-- and a submission passes its check where its own team and slot are in range
+pub own-in-range : {B last : Board} {ts : List Turn} → Fresh B → History B ts last → (s : Submission) → s .team ≤ 7 → s .slot < 16 → T (inRange? last s)
+own-in-range {B} {last} f h s team slot =
+    let g : InRange last = stays h (fresh f) in
+    and (goodSlots? (last .slots)) (goodLedger? (last .ledger) && (leb (s .team) 7 && ltb (s .slot) 16)) (g .slots)
+    (and (goodLedger? (last .ledger)) (leb (s .team) 7 && ltb (s .slot) 16) (g .ledger)
+    (and (leb (s .team) 7) (ltb (s .slot) 16) (le→leb (s .team) 7 team) (lt→ltb (s .slot) 16 slot)))
