@@ -7,9 +7,10 @@ use std::thread::sleep;
 use std::time::Duration;
 
 use crate::plain;
-use crate::reading::{self, Certificate, Counts, Refusal};
+use crate::reading::{self, Certificate, Counts, Refusal, Slot};
 
-/// The four calls and the program, with the answers of document 01.
+/// The four calls and the program, with the answers of document 01, and the two calls of document
+/// 02, card 3.
 pub trait Side {
     fn judge(&self, model: &[u32], table: &[u32]) -> Result<Certificate, Refusal>;
     fn read_model(&self, words: &[u32]) -> Result<Counts, Refusal>;
@@ -17,6 +18,18 @@ pub trait Side {
     fn zone_inside(&self, clocks: u32, first: &[u32], second: &[u32]) -> Result<bool, Refusal>;
     /// What is printed for these bytes on standard input.
     fn program(&self, bytes: &[u8]) -> String;
+    /// Submits a table for a slot of the board (document 02, card 3).
+    fn submit(
+        &self,
+        slots: &mut [Slot],
+        allowance: &mut u32,
+        team: u32,
+        slot: u32,
+        model: &[u32],
+        table: &[u32],
+    ) -> Result<Certificate, Refusal>;
+    /// The held slots in rank.
+    fn rank(&self, slots: &[Slot]) -> Result<Vec<usize>, Refusal>;
 }
 
 /// The independent reading.
@@ -42,6 +55,22 @@ impl Side for Reading {
     fn program(&self, bytes: &[u8]) -> String {
         reading::program(bytes)
     }
+
+    fn submit(
+        &self,
+        slots: &mut [Slot],
+        allowance: &mut u32,
+        team: u32,
+        slot: u32,
+        model: &[u32],
+        table: &[u32],
+    ) -> Result<Certificate, Refusal> {
+        reading::submit(slots, allowance, team, slot, model, table)
+    }
+
+    fn rank(&self, slots: &[Slot]) -> Result<Vec<usize>, Refusal> {
+        reading::rank(slots)
+    }
 }
 
 /// The plain judge.
@@ -49,12 +78,7 @@ pub struct Plain;
 
 impl Side for Plain {
     fn judge(&self, model: &[u32], table: &[u32]) -> Result<Certificate, Refusal> {
-        let accepted = plain::judge(model, table).map_err(plainly_refused)?;
-        Ok(Certificate {
-            b: accepted.value,
-            whole: accepted.whole,
-            nodes: accepted.nodes,
-        })
+        plainly_judged(plain::judge(model, table))
     }
 
     fn read_model(&self, words: &[u32]) -> Result<Counts, Refusal> {
@@ -77,6 +101,55 @@ impl Side for Plain {
     fn program(&self, bytes: &[u8]) -> String {
         plain::program(bytes)
     }
+
+    fn submit(
+        &self,
+        slots: &mut [Slot],
+        allowance: &mut u32,
+        team: u32,
+        slot: u32,
+        model: &[u32],
+        table: &[u32],
+    ) -> Result<Certificate, Refusal> {
+        let mut board: Vec<plain::Slot> = slots.iter().map(plain_slot).collect();
+        let (answer, left) = plain::submit(&mut board, *allowance, (team, slot), model, table);
+        *allowance = left;
+        for (slot, plain) in slots.iter_mut().zip(&board) {
+            *slot = Slot {
+                held: plain.held,
+                team: plain.team,
+                b: plain.value,
+                whole: plain.whole,
+            };
+        }
+        plainly_judged(answer)
+    }
+
+    fn rank(&self, slots: &[Slot]) -> Result<Vec<usize>, Refusal> {
+        let board: Vec<plain::Slot> = slots.iter().map(plain_slot).collect();
+        let order = plain::rank(&board).map_err(plainly_refused)?;
+        Ok(order.to_vec())
+    }
+}
+
+fn plain_slot(slot: &Slot) -> plain::Slot {
+    plain::Slot {
+        held: slot.held,
+        team: slot.team,
+        value: slot.b,
+        whole: slot.whole,
+    }
+}
+
+fn plainly_judged(
+    answer: Result<plain::Certificate, plain::Refusal>,
+) -> Result<Certificate, Refusal> {
+    let accepted = answer.map_err(plainly_refused)?;
+    Ok(Certificate {
+        b: accepted.value,
+        whole: accepted.whole,
+        nodes: accepted.nodes,
+    })
 }
 
 fn plainly_refused(plain::Refusal { number, place }: plain::Refusal) -> Refusal {
@@ -90,12 +163,7 @@ pub struct UnderTest {
 
 impl Side for UnderTest {
     fn judge(&self, model: &[u32], table: &[u32]) -> Result<Certificate, Refusal> {
-        let accepted = miss_chance::judge(model, table).result().map_err(refused)?;
-        Ok(Certificate {
-            b: accepted.b,
-            whole: accepted.whole,
-            nodes: accepted.nodes,
-        })
+        judged(miss_chance::judge(model, table))
     }
 
     fn read_model(&self, words: &[u32]) -> Result<Counts, Refusal> {
@@ -135,6 +203,74 @@ impl Side for UnderTest {
         };
         run().unwrap_or_else(|error| format!("(not run: {error})"))
     }
+
+    fn submit(
+        &self,
+        slots: &mut [Slot],
+        allowance: &mut u32,
+        team: u32,
+        slot: u32,
+        model: &[u32],
+        table: &[u32],
+    ) -> Result<Certificate, Refusal> {
+        let mut room = between_neighbours(slots);
+        let lent = 1..room.len() - 1;
+        let mut ledger = miss_chance::Ledger {
+            allowance: *allowance,
+        };
+        let board = &mut room[lent.clone()];
+        let answer = miss_chance::submit(board, &mut ledger, team, slot, model, table);
+        *allowance = ledger.allowance;
+        for (slot, lent) in slots.iter_mut().zip(&room[lent]) {
+            *slot = Slot {
+                held: lent.held,
+                team: lent.team,
+                b: lent.b,
+                whole: lent.whole,
+            };
+        }
+        let neighbours = [room[0], room[room.len() - 1]];
+        assert_eq!(neighbours, [NEIGHBOUR; 2], "a slot that was not lent");
+        judged(answer)
+    }
+
+    fn rank(&self, slots: &[Slot]) -> Result<Vec<usize>, Refusal> {
+        let room = between_neighbours(slots);
+        let answer = miss_chance::rank(&room[1..room.len() - 1]);
+        let ranking = answer.result().map_err(refused)?;
+        Ok(ranking.to_vec())
+    }
+}
+
+/// A slot before the lent ones and one behind them, which no call may write.
+const NEIGHBOUR: miss_chance::Slot = miss_chance::Slot {
+    held: true,
+    team: u32::MAX,
+    b: u32::MAX,
+    whole: u32::MAX,
+};
+
+/// The slots as the package has them, between two neighbours.
+fn between_neighbours(slots: &[Slot]) -> Vec<miss_chance::Slot> {
+    let lent = |slot: &Slot| miss_chance::Slot {
+        held: slot.held,
+        team: slot.team,
+        b: slot.b,
+        whole: slot.whole,
+    };
+    let mut room = vec![NEIGHBOUR];
+    room.extend(slots.iter().map(lent));
+    room.push(NEIGHBOUR);
+    room
+}
+
+fn judged(verdict: miss_chance::Verdict) -> Result<Certificate, Refusal> {
+    let accepted = verdict.result().map_err(refused)?;
+    Ok(Certificate {
+        b: accepted.b,
+        whole: accepted.whole,
+        nodes: accepted.nodes,
+    })
 }
 
 /// Writes long inputs in two parts, as a slow pipe would bring them. The program need not read what

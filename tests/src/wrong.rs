@@ -1,7 +1,7 @@
 //! Judges that are wrong on purpose. Tests that let one of them pass would be worth nothing.
 
 use crate::flawed::{flawed_judge, Flaw};
-use crate::reading::{self, Certificate, Counts, Refusal};
+use crate::reading::{self, Certificate, Counts, Refusal, Slot};
 use crate::sides::Side;
 
 type Judge = Box<dyn Fn(&[u32], &[u32]) -> Result<Certificate, Refusal>>;
@@ -9,6 +9,9 @@ type ReadModel = Box<dyn Fn(&[u32]) -> Result<Counts, Refusal>>;
 type ZoneEmpty = Box<dyn Fn(u32, &[u32]) -> Result<bool, Refusal>>;
 type ZoneInside = Box<dyn Fn(u32, &[u32], &[u32]) -> Result<bool, Refusal>>;
 type Program = Box<dyn Fn(&[u8]) -> String>;
+type Submit =
+    Box<dyn Fn(&mut [Slot], &mut u32, u32, u32, &[u32], &[u32]) -> Result<Certificate, Refusal>>;
+type Rank = Box<dyn Fn(&[Slot]) -> Result<Vec<usize>, Refusal>>;
 
 /// A side made of closures.
 pub struct Wrong {
@@ -18,6 +21,8 @@ pub struct Wrong {
     zone_empty: ZoneEmpty,
     zone_inside: ZoneInside,
     program: Program,
+    submit: Submit,
+    rank: Rank,
 }
 
 impl Side for Wrong {
@@ -39,6 +44,22 @@ impl Side for Wrong {
 
     fn program(&self, bytes: &[u8]) -> String {
         (self.program)(bytes)
+    }
+
+    fn submit(
+        &self,
+        slots: &mut [Slot],
+        allowance: &mut u32,
+        team: u32,
+        slot: u32,
+        model: &[u32],
+        table: &[u32],
+    ) -> Result<Certificate, Refusal> {
+        (self.submit)(slots, allowance, team, slot, model, table)
+    }
+
+    fn rank(&self, slots: &[Slot]) -> Result<Vec<usize>, Refusal> {
+        (self.rank)(slots)
     }
 }
 
@@ -68,6 +89,8 @@ pub fn right(name: &str) -> Wrong {
         zone_empty: Box::new(reading::zone_empty),
         zone_inside: Box::new(reading::zone_inside),
         program: Box::new(reading::program),
+        submit: Box::new(reading::submit),
+        rank: Box::new(reading::rank),
     }
 }
 

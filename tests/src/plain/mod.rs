@@ -4,6 +4,7 @@
 //! arrays on the stack: no call allocates. It shares no code with the reading or the proved crates,
 //! and its answers are compared like theirs.
 
+mod board;
 mod few;
 mod judging;
 mod model;
@@ -11,6 +12,7 @@ mod program;
 mod table;
 mod zone;
 
+pub use board::{rank, submit, Slot};
 pub use program::program;
 
 use judging::judge_table;

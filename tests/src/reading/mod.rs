@@ -1,10 +1,12 @@
-//! An independent reading of document 01, the miss-chance judge, and of document 02, card 1, which
-//! lets a table cut a node in two.
+//! An independent reading of document 01, the miss-chance judge, and of document 02: card 1, which
+//! lets a table cut a node in two, and card 3, the board of slots.
 //!
 //! This file holds what the calls of "The four calls and their refusals" answer, and the two that
 //! read whole files. Words are parsed into a tree (`words`, `cursor`, `model`, `table`), and the
-//! tree is judged (`zones`, `judging`). `questions` and `program` are the other calls.
+//! tree is judged (`zones`, `judging`). `questions` and `program` are the other calls of document
+//! 01, `board` has those of card 3.
 
+mod board;
 mod cursor;
 pub mod judging;
 pub mod model;
@@ -14,6 +16,7 @@ pub mod table;
 pub mod words;
 pub mod zones;
 
+pub use board::{rank, submit, Slot};
 pub use judging::{judge_table, reach_of_row};
 pub use model::{parse_model, Action, Edge, Location, Model, Start};
 pub use program::program;

@@ -1,6 +1,7 @@
 //! Tests of the reading, by subject. `worked` has every case of "Timeline M and table T" of
 //! document 01.
 
+mod board;
 mod cuts;
 mod judging;
 mod model;
