@@ -3,7 +3,8 @@
 use std::collections::BTreeMap;
 use std::fmt::{self, Debug};
 
-use crate::reading::{words, Certificate, Counts, Refusal};
+use crate::histories::{self, Asks, Board, BoardTally, Submission};
+use crate::reading::{words, Certificate, Counts, Refusal, Slot};
 use crate::sides::{Plain, Reading, Side};
 use crate::spell;
 
@@ -44,6 +45,7 @@ pub struct Tally {
     pub answers: BTreeMap<(&'static str, Answer), usize>,
     /// Judged tables that were accepted and have a cut.
     pub accepted_with_cut: usize,
+    pub boards: BoardTally,
     /// By side: answers that were the reading's.
     pub agreed: BTreeMap<&'static str, usize>,
 }
@@ -153,10 +155,19 @@ impl<'a> Comparer<'a> {
         accepted: impl Fn(&T) -> Answer,
     ) -> Same<T> {
         let same = self.same(call, ask, || written(input))?;
+        self.count(call, &same, accepted);
+        Ok(same)
+    }
+
+    fn count<T>(
+        &mut self,
+        call: &'static str,
+        same: &Result<T, Refusal>,
+        accepted: impl Fn(&T) -> Answer,
+    ) {
         let refused = |refusal: &Refusal| Answer::Refused(refusal.number);
         let answer = same.as_ref().map_or_else(refused, accepted);
         self.tally.count(call, answer);
-        Ok(same)
     }
 
     /// The reading's answer, if the others give the same.
@@ -180,6 +191,30 @@ impl<'a> Comparer<'a> {
             *self.tally.agreed.entry(name).or_default() += 1;
         }
         Ok(ours)
+    }
+}
+
+/// Boards are compared with all their fields: answer and board must be the same.
+impl Asks for Comparer<'_> {
+    fn submit(
+        &mut self,
+        board: &Board,
+        submission: &Submission,
+    ) -> Result<(histories::Answer, Board), Fault> {
+        let ask = |side: &dyn Side| submission.ask(side, board);
+        let same = self.same("submit", ask, || format!("{board:?}\n{submission}"))?;
+        self.count("submit", &same.0, |_| Answer::Accepted);
+        self.tally.boards.submission(board, submission, &same.0);
+        Ok(same)
+    }
+
+    fn rank(&mut self, slots: &[Slot]) -> Same<Vec<usize>> {
+        let same = self.same("rank", |side| side.rank(slots), || format!("{slots:?}"))?;
+        self.count("rank", &same, |_| Answer::Accepted);
+        if let Ok(order) = &same {
+            self.tally.boards.rank(slots, order);
+        }
+        Ok(same)
     }
 }
 

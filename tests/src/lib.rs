@@ -20,6 +20,7 @@ pub mod explore;
 pub mod figures;
 pub mod flawed;
 pub mod garbage;
+pub mod histories;
 pub mod instructions;
 pub mod models;
 pub mod mutate;

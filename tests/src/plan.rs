@@ -8,6 +8,7 @@ use crate::edits::{loosen, reroute, tighten};
 use crate::evidence::Evidence;
 use crate::explore::explore;
 use crate::garbage::{garbage_model, garbage_table, raw};
+use crate::histories;
 use crate::models::{self, Size};
 use crate::mutate::mutate;
 use crate::program_inputs;
@@ -30,6 +31,8 @@ pub struct Work {
     pub boundaries: usize,
     /// Runs of the program, besides the directed ones.
     pub programs: usize,
+    /// Boards of slots, besides the directed ones.
+    pub boards: histories::Counts,
 }
 
 impl Work {
@@ -41,6 +44,10 @@ impl Work {
         garbage: 20_000,
         boundaries: 2,
         programs: 5000,
+        boards: histories::Counts {
+            histories: 500,
+            handed_in: 10_000,
+        },
     };
 
     /// Enough to catch every wrong judge of `wrong`.
@@ -51,6 +58,10 @@ impl Work {
         garbage: 500,
         boundaries: 1,
         programs: 300,
+        boards: histories::Counts {
+            histories: 20,
+            handed_in: 300,
+        },
     };
 }
 
@@ -58,6 +69,8 @@ pub struct Run<'a> {
     pub comparer: Comparer<'a>,
     pub evidence: Evidence,
     random: Random,
+    /// What boards are drawn with.
+    random_boards: Random,
 }
 
 impl<'a> Run<'a> {
@@ -66,6 +79,7 @@ impl<'a> Run<'a> {
             comparer: Comparer::new(under_test),
             evidence: Evidence::default(),
             random: Random::new(seed),
+            random_boards: Random::new(seed + 1),
         }
     }
 
@@ -94,7 +108,13 @@ impl<'a> Run<'a> {
         for _ in 0..work.garbage {
             self.garbage()?;
         }
-        self.program_runs(work.programs)
+        self.program_runs(work.programs)?;
+        self.boards(work)
+    }
+
+    /// Histories of submissions, and boards that are handed in.
+    pub fn boards(&mut self, work: &Work) -> Result<(), Fault> {
+        histories::compare(&mut self.comparer, &mut self.random_boards, work.boards)
     }
 
     /// Document 01's own cases, and those of card 1.

@@ -5,22 +5,26 @@ use std::fmt::{Display, Write};
 
 use crate::comparer::{Answer, Tally, PLAIN, UNDER_TEST};
 use crate::evidence::Evidence;
+use crate::histories::BoardTally;
 
-const CALLS: [&str; 5] = [
+const CALLS: [&str; 7] = [
     "judge",
     "read_model",
     "zone_empty",
     "zone_inside",
     "program",
+    "submit",
+    "rank",
 ];
 
-/// All refusals of document 01, and those of document 02, card 1.
-const REFUSALS: [u32; 25] = [
+/// All refusals of document 01, and those of document 02, cards 1 and 3.
+const REFUSALS: [u32; 28] = [
     1, 2, 3, 4, 5, 6, 11, 12, 13, 14, 15, 16, 17, 18, 19, 20, 21, 31, 32, 33, 41, 42, 51, 52, 53,
+    54, 55, 56,
 ];
 
-/// All answers that are no refusals.
-const ANSWERS: [(&str, Answer); 7] = [
+/// All answers that are no refusals, and the refusal that two calls give.
+const ANSWERS: [(&str, Answer); 11] = [
     ("judge", Answer::Accepted),
     ("read_model", Answer::Accepted),
     ("zone_empty", Answer::Yes),
@@ -28,6 +32,10 @@ const ANSWERS: [(&str, Answer); 7] = [
     ("zone_inside", Answer::Yes),
     ("zone_inside", Answer::No),
     ("program", Answer::Accepted),
+    ("submit", Answer::Accepted),
+    ("submit", Answer::Refused(54)),
+    ("rank", Answer::Accepted),
+    ("rank", Answer::Refused(54)),
 ];
 
 /// Comparisons by call and answer.
@@ -100,6 +108,25 @@ pub fn evidence(evidence: &Evidence, tally: &Tally) -> String {
     lines.join("\n") + "\n"
 }
 
+/// What the boards came to.
+pub fn boards(tally: &BoardTally) -> String {
+    let lines = [
+        format!(
+            "boards: histories {}, of these with the allowance spent {}, with all slots held {}; handed in {}",
+            tally.histories, tally.spent, tally.filled, tally.handed_in
+        ),
+        format!(
+            "own slots written over: {}, of these by a larger fraction {}; own slots kept by the judge's refusal: {}; submissions with several refusals due: {}",
+            tally.written_over, tally.by_a_larger, tally.kept, tally.several_due
+        ),
+        format!(
+            "ranks of full boards: {}; ranks with equal fractions: {}, with different ones that are equal in floating point: {}",
+            tally.full, tally.ties, tally.close
+        ),
+    ];
+    lines.join("\n") + "\n"
+}
+
 fn listed<K: Display>(counts: &BTreeMap<K, usize>) -> String {
     let entries: Vec<String> = counts
         .iter()
@@ -141,15 +168,58 @@ pub fn lacks(tally: &Tally, evidence: &Evidence) -> Vec<String> {
         (evidence.zones, 1000, "zone questions tried out"),
     ]
     .map(|(count, least, what)| (count, least, what.to_string()));
+    let boards = due_of_boards(tally).map(|(count, least, what)| (count, least, what.to_string()));
     let all = refused
         .into_iter()
         .chain(answered)
         .chain(witnessed)
-        .chain(others);
+        .chain(others)
+        .chain(boards);
     let short = all.filter(|(count, least, _)| count < least);
     short
         .map(|(count, least, what)| format!("{what}: {count} where {least} are due"))
         .collect()
+}
+
+/// What the boards must have met, and how often at least.
+fn due_of_boards(tally: &Tally) -> [(usize, usize, &'static str); 13] {
+    let boards = &tally.boards;
+    let submitted = |answer| tally.answers.get(&("submit", answer)).copied().unwrap_or(0);
+    [
+        (submitted(Answer::Accepted), 10_000, "accepted submissions"),
+        (
+            submitted(Answer::Refused(54)),
+            1000,
+            "submissions refused by 54",
+        ),
+        (
+            submitted(Answer::Refused(55)),
+            1000,
+            "submissions refused by 55",
+        ),
+        (
+            submitted(Answer::Refused(56)),
+            1000,
+            "submissions refused by 56",
+        ),
+        (boards.handed_in, 1000, "boards handed in"),
+        (boards.spent, 100, "histories with the allowance spent"),
+        (boards.filled, 100, "histories with all slots held"),
+        (
+            boards.by_a_larger,
+            1000,
+            "own slots written over by a larger fraction",
+        ),
+        (boards.kept, 1000, "own slots kept by the judge's refusal"),
+        (
+            boards.several_due,
+            100,
+            "submissions with several refusals due",
+        ),
+        (boards.full, 1000, "ranks of full boards"),
+        (boards.ties, 1000, "ranks with equal fractions"),
+        (boards.close, 100, "ranks that floating point cannot tell"),
+    ]
 }
 
 #[cfg(test)]
@@ -159,6 +229,6 @@ mod tests {
     #[test]
     fn an_idle_run_lacks_everything() {
         let lacks = lacks(&Tally::default(), &Evidence::default());
-        assert_eq!(lacks.len(), REFUSALS.len() + ANSWERS.len() + 4 + 9);
+        assert_eq!(lacks.len(), REFUSALS.len() + ANSWERS.len() + 4 + 9 + 13);
     }
 }

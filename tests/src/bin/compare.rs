@@ -80,6 +80,7 @@ fn compare(settings: &Settings) -> Result<(), Fault> {
     }
     print!("{}", report::comparisons(&run.comparer.tally));
     print!("{}", report::evidence(&run.evidence, &run.comparer.tally));
+    print!("{}", report::boards(&run.comparer.tally.boards));
     let lacks = report::lacks(&run.comparer.tally, &run.evidence);
     if lacks.is_empty() {
         return Ok(());
