@@ -1,13 +1,15 @@
 //! Outside evidence for the miss-chance judge: code that shares nothing with the proved crates.
 //!
-//! `reading` is an independent reading of document 01 and of document 02, card 1, `plain` a plain
-//! judge written for speed. `plan` draws inputs (`models`, `explore`, `cuts`, `edits`, `mutate`,
+//! `reading` is an independent reading of document 01 and of document 02, cards 1 and 3, `plain` a
+//! plain judge written for speed. `plan` draws inputs (`models`, `explore`, `cuts`, `edits`, `mutate`,
 //! `garbage`, `boundaries`, `questions`, `program_inputs`) and has the judge under test, the reading
-//! and the plain judge answer them (`comparer`). `cases` holds all of them against the stored
-//! answers under `tests/cases`. `evidence` holds answers against valuations that are tried one by
-//! one (`points`, `player`, `witness`). `self_check` shows that the tests can fail, with judges that
-//! are wrong on purpose (`wrong`, `flawed`). `figures` says how long a call takes on each side,
-//! `instructions` how many instructions it needs, on the inputs of `shapes`.
+//! and the plain judge answer them (`comparer`). `histories` does the same with boards of slots, after
+//! every submission of a history, and holds the boards against the law of card 3. `cases` holds all
+//! of them against the stored answers under `tests/cases`. `evidence` holds answers against
+//! valuations that are tried one by one (`points`, `player`, `witness`). `self_check` shows that the
+//! tests can fail, with judges and boards that are wrong on purpose (`wrong`, `flawed`,
+//! `flawed_board`). `figures` says how long a call takes on each side, `instructions` how many
+//! instructions it needs, on the inputs of `shapes`.
 
 pub mod boundaries;
 pub mod cases;
@@ -19,6 +21,7 @@ pub mod evidence;
 pub mod explore;
 pub mod figures;
 pub mod flawed;
+pub mod flawed_board;
 pub mod garbage;
 pub mod histories;
 pub mod instructions;

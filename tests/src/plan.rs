@@ -45,8 +45,8 @@ impl Work {
         boundaries: 2,
         programs: 5000,
         boards: histories::Counts {
-            histories: 500,
-            handed_in: 10_000,
+            histories: 3000,
+            handed_in: 30_000,
         },
     };
 
@@ -59,7 +59,7 @@ impl Work {
         boundaries: 1,
         programs: 300,
         boards: histories::Counts {
-            histories: 20,
+            histories: 30,
             handed_in: 300,
         },
     };

@@ -185,40 +185,30 @@ pub fn lacks(tally: &Tally, evidence: &Evidence) -> Vec<String> {
 fn due_of_boards(tally: &Tally) -> [(usize, usize, &'static str); 13] {
     let boards = &tally.boards;
     let submitted = |answer| tally.answers.get(&("submit", answer)).copied().unwrap_or(0);
+    let refused = |number| submitted(Answer::Refused(number));
+    let accepted = submitted(Answer::Accepted);
     [
-        (submitted(Answer::Accepted), 10_000, "accepted submissions"),
-        (
-            submitted(Answer::Refused(54)),
-            1000,
-            "submissions refused by 54",
-        ),
-        (
-            submitted(Answer::Refused(55)),
-            1000,
-            "submissions refused by 55",
-        ),
-        (
-            submitted(Answer::Refused(56)),
-            1000,
-            "submissions refused by 56",
-        ),
-        (boards.handed_in, 1000, "boards handed in"),
-        (boards.spent, 100, "histories with the allowance spent"),
-        (boards.filled, 100, "histories with all slots held"),
+        (accepted, 100_000, "accepted submissions"),
+        (refused(54), 10_000, "submissions refused by 54"),
+        (refused(55), 10_000, "submissions refused by 55"),
+        (refused(56), 10_000, "submissions refused by 56"),
+        (boards.handed_in, 10_000, "boards handed in"),
+        (boards.spent, 500, "histories with the allowance spent"),
+        (boards.filled, 500, "histories with all slots held"),
         (
             boards.by_a_larger,
-            1000,
-            "own slots written over by a larger fraction",
+            10_000,
+            "own slots with a larger fraction",
         ),
-        (boards.kept, 1000, "own slots kept by the judge's refusal"),
+        (boards.kept, 10_000, "own slots kept on refusal"),
         (
             boards.several_due,
-            100,
+            5000,
             "submissions with several refusals due",
         ),
-        (boards.full, 1000, "ranks of full boards"),
-        (boards.ties, 1000, "ranks with equal fractions"),
-        (boards.close, 100, "ranks that floating point cannot tell"),
+        (boards.full, 10_000, "ranks of full boards"),
+        (boards.ties, 10_000, "ranks with equal fractions"),
+        (boards.close, 1000, "ranks closer than floating point"),
     ]
 }
 

@@ -4,43 +4,78 @@ use crate::boundaries::large_sum;
 use crate::comparer::{Fault, PLAIN, UNDER_TEST};
 use crate::evidence::Evidence;
 use crate::flawed::{flawed_judge, Flaw};
+use crate::flawed_board::BoardFlaw;
+use crate::histories;
 use crate::plan::{small_pairs, Run, Work};
 use crate::random::Random;
 use crate::reading::{Certificate, Refusal};
 use crate::worked::{cases, cuts, CUT_TABLE, MODEL, TABLE};
 use crate::wrong::{self, Wrong};
 
+/// What of a run is to catch a wrong side.
+type Part = fn(&mut Run) -> Result<(), Fault>;
+
 /// Runs every wrong judge until a difference is found: its name and the comparisons before that.
 pub fn wrong_judges() -> Result<Vec<(String, usize)>, Fault> {
+    let caught = |wrong: &Wrong| caught(wrong, |run| run.drawn(&Work::SHORT));
     wrong::all().iter().map(caught).collect()
-}
-
-fn caught(wrong: &Wrong) -> Result<(String, usize), Fault> {
-    let run = Run::new(wrong, 3);
-    caught_at(UNDER_TEST, run, wrong)
 }
 
 /// The same with every wrong judge in the place of the plain judge, beside a right one.
 pub fn wrong_plain_judges() -> Result<Vec<(String, usize)>, Fault> {
-    wrong::all().iter().map(caught_as_plain).collect()
+    let caught = |wrong: &Wrong| caught_as_plain(wrong, |run| run.drawn(&Work::SHORT));
+    wrong::all().iter().map(caught).collect()
 }
 
-fn caught_as_plain(wrong: &Wrong) -> Result<(String, usize), Fault> {
+/// The same with every wrong board, and with boards alone.
+pub fn wrong_boards() -> Result<Vec<(String, usize)>, Fault> {
+    let caught = |wrong: &Wrong| caught(wrong, |run| run.boards(&Work::SHORT));
+    wrong::boards().iter().map(caught).collect()
+}
+
+pub fn wrong_plain_boards() -> Result<Vec<(String, usize)>, Fault> {
+    let caught = |wrong: &Wrong| caught_as_plain(wrong, |run| run.boards(&Work::SHORT));
+    wrong::boards().iter().map(caught).collect()
+}
+
+fn caught(wrong: &Wrong, part: Part) -> Result<(String, usize), Fault> {
+    let run = Run::new(wrong, 3);
+    caught_at(UNDER_TEST, run, wrong, part)
+}
+
+fn caught_as_plain(wrong: &Wrong, part: Part) -> Result<(String, usize), Fault> {
     let right = wrong::right("right");
     let mut run = Run::new(&right, 3);
     run.comparer.plain = wrong;
-    caught_at(PLAIN, run, wrong)
+    caught_at(PLAIN, run, wrong, part)
 }
 
 /// The fault must name the side that is wrong.
-fn caught_at(side: &str, mut run: Run, wrong: &Wrong) -> Result<(String, usize), Fault> {
-    match run.drawn(&Work::SHORT) {
+fn caught_at(
+    side: &str,
+    mut run: Run,
+    wrong: &Wrong,
+    part: Part,
+) -> Result<(String, usize), Fault> {
+    match part(&mut run) {
         Err(fault) if fault.0.contains(&format!("\n{side}:")) => {
             Ok((wrong.name.clone(), run.comparer.tally.total()))
         }
         Err(fault) => Err(Fault(format!("{}: not as {side}: {fault}", wrong.name))),
         Ok(()) => Err(Fault(format!("not caught: {} as {side}", wrong.name))),
     }
+}
+
+/// Holds each flawed board against the law of card 3, without any comparison: its name and the boards
+/// and histories before one was objected to.
+pub fn flaws_against_law() -> Result<Vec<(String, usize)>, Fault> {
+    let objected = |flaw| {
+        let wrong = wrong::flawed_board(flaw);
+        let before = histories::objected(&wrong, &mut Random::new(5), 200);
+        let before = before.ok_or(Fault(format!("the law does not object to {flaw:?}")))?;
+        Ok((wrong.name, before))
+    };
+    BoardFlaw::ALL.into_iter().map(objected).collect()
 }
 
 /// Tells the player and the search for witnesses things that are false of the worked cases; hands back
@@ -157,6 +192,27 @@ mod tests {
     fn so_is_every_wrong_plain_judge() {
         let caught = wrong_plain_judges();
         assert!(caught.is_ok(), "{caught:?}");
+    }
+
+    #[test]
+    fn every_wrong_board_is_caught() {
+        let caught = wrong_boards();
+        assert!(caught.is_ok(), "{caught:?}");
+    }
+
+    #[test]
+    fn so_is_every_wrong_board_of_the_plain_judge() {
+        let caught = wrong_plain_boards();
+        assert!(caught.is_ok(), "{caught:?}");
+    }
+
+    #[test]
+    fn the_law_objects_to_flawed_boards() {
+        let objected = flaws_against_law();
+        assert!(objected.is_ok(), "{objected:?}");
+        let right = wrong::right("right");
+        let none = histories::objected(&right, &mut Random::new(5), 20);
+        assert_eq!(none, None);
     }
 
     #[test]

@@ -1,6 +1,7 @@
-//! Judges that are wrong on purpose. Tests that let one of them pass would be worth nothing.
+//! Judges and boards that are wrong on purpose. Tests that let one of them pass would be worth nothing.
 
 use crate::flawed::{flawed_judge, Flaw};
+use crate::flawed_board::{BoardFlaw, Request};
 use crate::reading::{self, Certificate, Counts, Refusal, Slot};
 use crate::sides::Side;
 
@@ -63,7 +64,7 @@ impl Side for Wrong {
     }
 }
 
-/// All of them.
+/// All judges.
 pub fn all() -> Vec<Wrong> {
     let mut all: Vec<Wrong> = Flaw::ALL.into_iter().map(flawed).collect();
     all.extend(wrong_judges());
@@ -78,6 +79,18 @@ pub fn all() -> Vec<Wrong> {
     }
     all.push(exchanged_in_question(32, 33));
     all
+}
+
+/// All boards. Their judge is right.
+pub fn boards() -> Vec<Wrong> {
+    let mut boards: Vec<Wrong> = BoardFlaw::ALL.into_iter().map(flawed_board).collect();
+    boards.extend([54, 55, 56].map(misplaced_in_submission));
+    boards.extend([(54, 55), (54, 56), (55, 56)].map(exchanged_in_submission));
+    boards.push(Wrong {
+        rank: Box::new(|slots| reading::rank(slots).map_err(|refusal| moved(refusal, 54))),
+        ..right("misplaces 54 in ranking")
+    });
+    boards
 }
 
 /// The reading itself, to be spoiled in one call.
@@ -107,6 +120,39 @@ fn with_judge(
 fn flawed(flaw: Flaw) -> Wrong {
     with_judge(&format!("{flaw:?}"), move |model, table| {
         flawed_judge(flaw, model, table)
+    })
+}
+
+pub fn flawed_board(flaw: BoardFlaw) -> Wrong {
+    Wrong {
+        submit: Box::new(move |slots, allowance, team, slot, model, table| {
+            flaw.submit(slots, allowance, Request { team, slot }, model, table)
+        }),
+        rank: Box::new(move |slots| flaw.rank(slots)),
+        ..right(&format!("{flaw:?}"))
+    }
+}
+
+/// A right board whose refusals are changed.
+fn with_refusals(name: String, change: impl Fn(Refusal) -> Refusal + 'static) -> Wrong {
+    Wrong {
+        submit: Box::new(move |slots, allowance, team, slot, model, table| {
+            let answer = reading::submit(slots, allowance, team, slot, model, table);
+            answer.map_err(&change)
+        }),
+        ..right(&name)
+    }
+}
+
+fn misplaced_in_submission(number: u32) -> Wrong {
+    with_refusals(format!("misplaces {number}"), move |refusal| {
+        moved(refusal, number)
+    })
+}
+
+fn exchanged_in_submission((one, other): (u32, u32)) -> Wrong {
+    with_refusals(format!("exchanges {one} and {other}"), move |refusal| {
+        exchanged(refusal, one, other)
     })
 }
 

@@ -3,7 +3,7 @@
 //!
 //! `compare [--program PATH] [--long N]`: exit code 0 if all answers agree and nothing is lacking.
 //! `--long N` does the work N times, each time with other seeds.
-//! `compare --wrong`: exit code 0 if all judges that are wrong on purpose are caught.
+//! `compare --wrong`: exit code 0 if all judges and boards that are wrong on purpose are caught.
 
 use std::path::{Path, PathBuf};
 use std::process::ExitCode;
@@ -94,6 +94,14 @@ fn catch_wrong_judges() -> Result<(), Fault> {
     }
     let as_plain = self_check::wrong_plain_judges()?.len();
     println!("caught in the place of the plain judge, too: {as_plain}");
+    for (name, before) in self_check::wrong_boards()? {
+        println!("board caught after {before:>5} equal answers: {name}");
+    }
+    let as_plain = self_check::wrong_plain_boards()?.len();
+    println!("boards caught in the place of the plain judge's, too: {as_plain}");
+    for (name, before) in self_check::flaws_against_law()? {
+        println!("the law objects after {before:>5} boards and histories: {name}");
+    }
     for (name, before) in self_check::flaws_against_player()? {
         println!("the player objects after {before:>5} answers: {name}");
     }
