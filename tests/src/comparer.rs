@@ -209,7 +209,8 @@ impl Asks for Comparer<'_> {
     }
 
     fn rank(&mut self, slots: &[Slot]) -> Same<Vec<usize>> {
-        let same = self.same("rank", |side| side.rank(slots), || format!("{slots:?}"))?;
+        let ask = |side: &dyn Side| side.rank(slots);
+        let same = self.same("rank", ask, || histories::written(slots))?;
         self.count("rank", &same, |_| Answer::Accepted);
         if let Ok(order) = &same {
             self.tally.boards.rank(slots, order);

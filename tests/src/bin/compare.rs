@@ -1,5 +1,5 @@
-//! Compares the judge under test and the plain judge with the independent reading, and answers with the
-//! exhaustive player.
+//! Compares the judge under test and the plain judge with the independent reading, answers with the
+//! exhaustive player, and boards with the law of document 02, card 3.
 //!
 //! `compare [--program PATH] [--long N]`: exit code 0 if all answers agree and nothing is lacking.
 //! `--long N` does the work N times, each time with other seeds.

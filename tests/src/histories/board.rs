@@ -42,21 +42,22 @@ impl Board {
     }
 }
 
-/// Every field: what is left, then team, b and V of each slot, those of vacant ones in brackets.
+/// What is left, and the slots.
 impl fmt::Debug for Board {
     fn fmt(&self, out: &mut fmt::Formatter<'_>) -> fmt::Result {
-        write!(out, "{} left, {} slots:", self.allowance, self.slots.len())?;
-        for slot in &self.slots {
-            let Slot { team, b, whole, .. } = slot;
-            match slot {
-                &Slot::VACANT => write!(out, " []")?,
-                Slot { held: false, .. } => write!(out, " [{team} {b}/{whole}]")?,
-                _ => write!(out, " {team} {b}/{whole}")?,
-            }
-            write!(out, ",")?;
-        }
-        Ok(())
+        write!(out, "{} left, {}", self.allowance, written(&self.slots))
     }
+}
+
+/// Team, b and V of each slot, those of vacant ones in brackets.
+pub fn written(slots: &[Slot]) -> String {
+    let one = |slot: &Slot| match *slot {
+        Slot::VACANT => "[]".to_string(),
+        Slot { team, b, whole, .. } if slot.held => format!("{team} {b}/{whole}"),
+        Slot { team, b, whole, .. } => format!("[{team} {b}/{whole}]"),
+    };
+    let slots: Vec<String> = slots.iter().map(one).collect();
+    format!("{} slots: {}", slots.len(), slots.join(", "))
 }
 
 /// Team, slot, model and table.

@@ -1,9 +1,10 @@
-//! What document 02, card 3, says of a board, worked out from the submissions and their answers alone.
+//! What document 02, card 3, says of boards.
 //!
-//! The law has no board. What a slot shows is looked up in the list of accepted submissions, and what
-//! is left is counted from the answers.
+//! `Law` is about a whole history and goes by the list of submissions and answers alone: what a slot
+//! shows is looked up among the accepted ones, and what is left is counted from the answers. `step` says
+//! what one submission changes, `rank` in which order the held slots are.
 
-use super::board::{Answer, Board, Submission};
+use super::board::{written, Answer, Board, Submission};
 use super::fractions::compare;
 use crate::comparer::Fault;
 use crate::reading::{Refusal, Slot};
@@ -127,6 +128,10 @@ pub fn rank(slots: &[Slot], answer: &Result<Vec<usize>, Refusal>) -> Result<(), 
     let fraction = |number: &usize| (slots[*number].b, slots[*number].whole);
     let due = match answer {
         Ok(_) => {
+            let no_fraction = slots.iter().any(|slot| slot.held && slot.whole == 0);
+            demand(!no_fraction, || {
+                format!("ranked with a V of 0: {}", written(slots))
+            })?;
             let mut order: Vec<usize> = (0..slots.len()).filter(|&at| slots[at].held).collect();
             order.sort_by(|one, other| {
                 compare(fraction(one), fraction(other)).then_with(|| one.cmp(other))
@@ -139,7 +144,8 @@ pub fn rank(slots: &[Slot], answer: &Result<Vec<usize>, Refusal>) -> Result<(), 
         }),
     };
     demand(*answer == due, || {
-        format!("the rank is due as {due:?}, not {answer:?}\n{slots:?}")
+        let slots = written(slots);
+        format!("the rank is due as {due:?}, not {answer:?}\n{slots}")
     })
 }
 

@@ -9,8 +9,7 @@ mod handed;
 mod law;
 mod tally;
 
-pub use board::{Answer, Board, History, Submission};
-pub use fractions::compare as compare_fractions;
+pub use board::{written, Answer, Board, History, Submission};
 pub use tally::BoardTally;
 
 use crate::comparer::{Comparer, Fault, Same};
@@ -28,7 +27,7 @@ pub trait Asks {
 }
 
 /// One side, without any comparison.
-pub struct Alone<'a>(pub &'a dyn Side);
+struct Alone<'a>(&'a dyn Side);
 
 impl Asks for Alone<'_> {
     fn submit(&mut self, board: &Board, submission: &Submission) -> Result<(Answer, Board), Fault> {
@@ -67,15 +66,16 @@ pub fn compare(comparer: &mut Comparer, random: &mut Random, counts: Counts) -> 
     Ok(())
 }
 
-/// Holds one side against the law alone: how many boards and histories it took to object.
+/// Holds one side against the law, without any comparison: the directed boards, then at most so many
+/// histories. How many of them passed before one was objected to, if one was.
 pub fn objected(side: &dyn Side, random: &mut Random, most: usize) -> Option<usize> {
-    let mut alone = Alone(side);
     let directed = handed::directed();
     let refuted = |case: &Directed| hold_directed(&mut Alone(side), case).is_err();
     if let Some(before) = directed.iter().position(refuted) {
         return Some(before);
     }
-    let before = (0..most).find(|_| run(&mut alone, &draw::history(random)).is_err())?;
+    let refuted = |_: &usize| run(&mut Alone(side), &draw::history(random)).is_err();
+    let before = (0..most).find(refuted)?;
     Some(directed.len() + before)
 }
 
@@ -97,6 +97,7 @@ fn run(asks: &mut dyn Asks, history: &History) -> Result<Board, Fault> {
     Ok(board)
 }
 
+/// The answer must be the one that is known.
 fn hold_directed(asks: &mut dyn Asks, case: &Directed) -> Result<(), Fault> {
     let Directed {
         board, submission, ..
