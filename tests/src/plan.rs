@@ -50,7 +50,7 @@ impl Work {
         },
     };
 
-    /// Enough to catch every wrong judge of `wrong`.
+    /// Enough to catch every wrong judge and board of `wrong`.
     pub const SHORT: Work = Work {
         models: 400,
         played: 0,

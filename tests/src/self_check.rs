@@ -33,6 +33,7 @@ pub fn wrong_boards() -> Result<Vec<(String, usize)>, Fault> {
     wrong::boards().iter().map(caught).collect()
 }
 
+/// And with every wrong board in the place of the plain judge's.
 pub fn wrong_plain_boards() -> Result<Vec<(String, usize)>, Fault> {
     let caught = |wrong: &Wrong| caught_as_plain(wrong, |run| run.boards(&Work::SHORT));
     wrong::boards().iter().map(caught).collect()
