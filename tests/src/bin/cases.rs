@@ -24,7 +24,7 @@ fn main() -> ExitCode {
         ["--program", program] => asked(&cases, PathBuf::from(program)),
         ["--words"] => {
             for case in &cases {
-                println!("{} | {} | {}", case.name, case.call, case.answer);
+                println!("{} | {}", case.name, case.question);
             }
             ExitCode::SUCCESS
         }

@@ -6,9 +6,10 @@ use std::path::{Path, PathBuf};
 
 use super::answers::answer;
 use super::calls::call;
+use super::histories::{history, ARROW};
 use super::lines::{lines, Line};
 use super::words::{good_name, words, Named};
-use super::{Case, Mistake};
+use super::{Case, Mistake, Question};
 
 /// A file of this name has definitions alone, for all files of its folder.
 const BASES: &str = "bases.txt";
@@ -121,27 +122,36 @@ fn define(text: &str, named: &mut Named) -> Result<(), String> {
     }
 }
 
-/// Reads `name | call | answer`.
+/// Reads a case: its name, and what is asked.
 fn case(file: &str, line: &Line, named: &Named) -> Result<Case, String> {
     let parts: Vec<&str> = line.text.split('|').map(str::trim).collect();
-    let [name, called, answered] = parts[..] else {
-        let bars = parts.len() - 1;
-        return Err(format!("name | call | answer has two bars, here {bars}"));
-    };
+    let (name, columns) = parts.split_first().unwrap_or((&"", &[]));
     if name.is_empty() {
         return Err("a case without a name".to_string());
     }
-    let (call, answer) = (call(called, named)?, answer(answered)?);
-    if !call.may_answer(&answer) {
-        return Err(format!("{} never answers {answer}", call.name()));
-    }
+    let question = match line.text.contains(ARROW) {
+        true => Question::History(history(columns, named)?),
+        false => asked(columns, named)?,
+    };
     Ok(Case {
         file: file.to_string(),
         line: line.number,
         name: name.to_string(),
-        call,
-        answer,
+        question,
     })
+}
+
+/// Reads what stands behind the name of a line `name | call | answer`.
+fn asked(columns: &[&str], named: &Named) -> Result<Question, String> {
+    let [called, answered] = columns else {
+        let bars = columns.len();
+        return Err(format!("name | call | answer has two bars, here {bars}"));
+    };
+    let (call, answer) = (call(called, named)?, answer(answered)?);
+    match call.may_answer(&answer) {
+        true => Ok(Question::Call(call, answer)),
+        false => Err(format!("{} never answers {answer}", call.name())),
+    }
 }
 
 #[cfg(test)]
@@ -158,10 +168,8 @@ mod tests {
         let cases = parsed(text).expect("a good text");
         assert_eq!(cases.len(), 1);
         assert_eq!((cases[0].line, cases[0].name.as_str()), (7, "one"));
-        assert_eq!(
-            cases[0].call,
-            super::super::calls::Call::ReadModel(vec![0x51001003; 2])
-        );
+        let shown = cases[0].question.to_string();
+        assert_eq!(shown, "read_model(51001003 51001003) | REFUSED 1 0");
     }
 
     #[test]

@@ -1,15 +1,18 @@
 //! The cases that stand as text under `tests/cases`, a case a line: its name, the call with its words,
-//! and the answer of documents 01 and 02.
+//! and the answer of documents 01 and 02; or its name and the history of a board.
 //!
 //! `lines` takes a text apart, `words` reads lists of words, `changes` the changes in one, `calls` the
-//! calls and `answers` what they answer; `files` puts the cases together. `run` asks the library, the
-//! independent reading and the plain judge and, where the words are a whole file, the program.
-//! `tests/cases/README.md` says how the lines are written.
+//! calls and `answers` what they answer, `boards` the boards and `histories` what is done with one;
+//! `files` puts the cases together. `run` asks the library, the independent reading and the plain
+//! judge and, where the words are a whole file, the program. `tests/cases/README.md` says how the
+//! lines are written.
 
 pub mod answers;
+pub mod boards;
 pub mod calls;
 mod changes;
 pub mod files;
+pub mod histories;
 mod lines;
 pub mod run;
 mod words;
@@ -18,6 +21,7 @@ use std::fmt;
 
 use answers::Answer;
 use calls::Call;
+use histories::History;
 
 /// A case, and where it stands.
 #[derive(Clone, Debug)]
@@ -25,8 +29,24 @@ pub struct Case {
     pub file: String,
     pub line: usize,
     pub name: String,
-    pub call: Call,
-    pub answer: Answer,
+    pub question: Question,
+}
+
+/// What is asked, with its answers.
+#[derive(Clone, Debug, PartialEq)]
+pub enum Question {
+    Call(Call, Answer),
+    History(History),
+}
+
+impl fmt::Display for Question {
+    /// As it is written, with every word written out.
+    fn fmt(&self, out: &mut fmt::Formatter<'_>) -> fmt::Result {
+        match self {
+            Question::Call(call, answer) => write!(out, "{call} | {answer}"),
+            Question::History(history) => write!(out, "{history}"),
+        }
+    }
 }
 
 /// What makes a case file unreadable.

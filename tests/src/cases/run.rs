@@ -4,7 +4,10 @@
 use std::collections::BTreeMap;
 use std::fmt::Write;
 
-use super::Case;
+use super::answers::Answer;
+use super::calls::Call;
+use super::histories::{Difference, History};
+use super::{Case, Question};
 use crate::sides::{Plain, Reading, Side};
 use crate::spell;
 
@@ -26,6 +29,20 @@ pub struct Outcome {
     pub differences: Vec<String>,
 }
 
+/// Those that are asked every case.
+fn sides(under_test: &dyn Side) -> [(&'static str, &dyn Side); 3] {
+    [
+        ("library", under_test),
+        ("reading", &Reading),
+        ("plain judge", &Plain),
+    ]
+}
+
+/// Where a case stands, and its name.
+fn place(case: &Case) -> String {
+    format!("{}:{}: {}", case.file, case.line, case.name)
+}
+
 impl Outcome {
     /// Asks all cases; differences are collected.
     pub fn of(cases: &[Case], under_test: &dyn Side) -> Outcome {
@@ -37,38 +54,47 @@ impl Outcome {
     }
 
     fn ask(&mut self, case: &Case, under_test: &dyn Side) {
-        *self.counts.entry(case.call.name()).or_default() += 1;
-        let expected = case.answer.to_string();
-        for (who, side) in [
-            ("library", under_test),
-            ("reading", &Reading),
-            ("plain judge", &Plain),
-        ] {
-            self.hold(case, who, &expected, &case.call.asked(side).to_string());
+        match &case.question {
+            Question::Call(call, answer) => self.call(case, call, *answer, under_test),
+            Question::History(history) => self.history(case, history, under_test),
         }
-        let Some(file) = case.call.whole_file() else {
+    }
+
+    fn call(&mut self, case: &Case, call: &Call, answer: Answer, under_test: &dyn Side) {
+        *self.counts.entry(call.name()).or_default() += 1;
+        let expected = answer.to_string();
+        for (who, side) in sides(under_test) {
+            self.hold(&place(case), who, &expected, &call.asked(side).to_string());
+        }
+        let Some(file) = call.whole_file() else {
             return;
         };
         *self.counts.entry("program").or_default() += 1;
-        let expected = format!("{}\n", case.call.of_whole_file(case.answer));
+        let expected = format!("{}\n", call.of_whole_file(answer));
         let bytes = spell::bytes(&file);
         for (who, side) in [
             ("program", under_test),
             ("reading of the file", &Reading),
             ("plain judge of the file", &Plain),
         ] {
-            self.hold(case, who, &expected, &side.program(&bytes));
+            self.hold(&place(case), who, &expected, &side.program(&bytes));
         }
     }
 
-    fn hold(&mut self, case: &Case, who: &str, expected: &str, got: &str) {
+    fn history(&mut self, case: &Case, history: &History, under_test: &dyn Side) {
+        *self.counts.entry("board").or_default() += 1;
+        for (who, side) in sides(under_test) {
+            if let Err(Difference { of, expected, got }) = history.played(side) {
+                let asked = format!("{}: {of}", place(case));
+                self.hold(&asked, who, &expected, &got);
+            }
+        }
+    }
+
+    fn hold(&mut self, asked: &str, who: &str, expected: &str, got: &str) {
         if expected != got {
-            let Case {
-                file, line, name, ..
-            } = case;
-            self.differences.push(format!(
-                "{file}:{line}: {name}\n    expected {expected:?}, the {who} says {got:?}"
-            ));
+            let told = format!("{asked}\n    expected {expected:?}, the {who} says {got:?}");
+            self.differences.push(told);
         }
     }
 
@@ -100,9 +126,12 @@ mod tests {
     use std::fs;
     use std::path::{Path, PathBuf};
 
+    use super::super::boards::Board;
     use super::super::files;
+    use super::super::histories::Step;
     use super::super::words::Named;
     use super::*;
+    use crate::reading::{Certificate, Refusal};
     use crate::wrong::{self, right};
 
     fn root() -> PathBuf {
@@ -152,6 +181,66 @@ mod tests {
         assert_eq!(found.len(), 6, "{found:?}"); // by the calls and by the file, of each side
         assert!(found.iter().all(|one| one.starts_with(&place)), "{found:?}");
         assert!(found[0].contains("REFUSED 20") && found[0].contains("REFUSED 21"));
+    }
+
+    /// A board's file with another answer, another rank and another board at the end.
+    #[test]
+    fn a_history_that_is_changed_is_reported() {
+        let text = "a board | fresh\n    \
+            | submit(team 1, slot 3, none, none) -> REFUSED 1 0\n    | rank() -> none\n    | 99 left\n";
+        assert_eq!(differences("a", text, &mut Named::new()), [""; 0]);
+        for (part, changed, asked) in [
+            (
+                "REFUSED 1 0",
+                "REFUSED 11 0",
+                "submit(team 1, slot 3, none, none)",
+            ),
+            ("rank() -> none", "rank() -> 3", "rank()"),
+            ("99 left", "100 left", "the board"),
+        ] {
+            let found = differences("a", &text.replacen(part, changed, 1), &mut Named::new());
+            assert_eq!(found.len(), 3, "{found:?}"); // of each side
+            let place = format!("a:1: a board: {asked}\n");
+            assert!(found.iter().all(|one| one.starts_with(&place)), "{found:?}");
+        }
+    }
+
+    /// Every step of the stored histories, each changed by itself.
+    #[test]
+    fn every_step_of_a_history_counts() {
+        for case in stored() {
+            let Question::History(history) = case.question else {
+                continue;
+            };
+            for (at, step) in history.steps.iter().enumerate() {
+                let mut changed = history.clone();
+                changed.steps[at] = otherwise(step.clone());
+                let caught = changed.played(&Reading).is_err();
+                assert!(caught, "{}: step {at}", case.name);
+            }
+        }
+    }
+
+    fn otherwise(step: Step) -> Step {
+        let place = |refusal: Refusal| Refusal {
+            place: refusal.place + 1,
+            ..refusal
+        };
+        match step {
+            Step::Submit(times, submission, Ok(accepted)) => {
+                let b = accepted.b ^ 1;
+                Step::Submit(times, submission, Ok(Certificate { b, ..accepted }))
+            }
+            Step::Submit(times, submission, Err(refusal)) => {
+                Step::Submit(times, submission, Err(place(refusal)))
+            }
+            Step::Rank(Ok(slots)) => Step::Rank(Ok([&slots[..], &[0]].concat())),
+            Step::Rank(Err(refusal)) => Step::Rank(Err(place(refusal))),
+            Step::Board(board) => Step::Board(Board {
+                left: board.left ^ 1,
+                ..board
+            }),
+        }
     }
 
     #[test]
