@@ -13,10 +13,11 @@ use crate::spell;
 
 /// How many cases there are at least, and how many of them are whole files. A number below means that
 /// one got lost.
-const LEAST: [(&str, &[&str], usize); 4] = [
+const LEAST: [(&str, &[&str], usize); 5] = [
     ("zone cases", &["zone_empty", "zone_inside"], 519),
     ("model cases", &["read_model"], 1627),
     ("judge cases", &["judge"], 3107),
+    ("histories of a board", &["board"], 361),
     ("whole files", &["program"], 4582),
 ];
 
