@@ -266,4 +266,17 @@ mod tests {
         ];
         assert_eq!(passed, of_bytes);
     }
+
+    /// All boards that are wrong on purpose.
+    #[test]
+    fn wrong_boards_are_caught() {
+        let mut cases = stored();
+        cases.retain(|case| matches!(case.question, Question::History(_)));
+        for side in wrong::boards() {
+            let outcome = Outcome::of(&cases, &side);
+            assert!(!outcome.differences.is_empty(), "{}", side.name);
+            let told = |one: &String| one.contains("the library says");
+            assert!(outcome.differences.iter().all(told), "{}", side.name);
+        }
+    }
 }
