@@ -10,28 +10,29 @@ use lib.Dec.{T, eqb, eqb→eq, eqb-refl}
 use Rattle.slots.specs.declared.Slot.{Slot}
 use Rattle.slots.specs.Slots.{slotAt}
 use Rattle.board.specs.Ranking.{ahead?, held?}
-use Rattle.board.specs.Ordering.{left?, picked, FirstLeft}
+use Rattle.board.specs.Ordering.{before?, better?, betterOf, left?, FirstLeft}
 use Rattle.board.specs.declared.ranking.Pick.{Pick}
 use Rattle.zone.proofs.Bools.{and}
 use Rattle.board.proofs.Tests.{dec, never, first-of, second-of, one-of, or-left, or-right}
 use Rattle.board.proofs.OrderLaws.{ahead-trans, ahead-either}
 
-module _ (ss : List Slot) (last best : Pick) (m : ℕ) (b₁ b₂ : Bool) (e₁ : b₁ ≡ ahead? ss (last .at) m) (e₂ : b₂ ≡ ahead? ss m (best .at)) where
+-- the two tests are those of what the callee ensures
+module _ (s : Slot) (m : ℕ) (last : Pick) (l : Slot) (best : Pick) (b : Slot) (b₁ b₂ : Bool) (e₁ : b₁ ≡ before? l (last .at) s m) (e₂ : b₂ ≡ before? s m b (best .at)) where
   abbrev now : Bool → Bool → Bool
-  now x y = held? ss m && ((not (last .some) || x) && (not (best .some) || y))
+  now x y = s .held && ((not (last .some) || x) && (not (best .some) || y))
 
   abbrev new : Pick
   new = record { some = true; at = m }
 
-  as-read : now (ahead? ss (last .at) m) (ahead? ss m (best .at)) ≡ now b₁ b₂
-  as-read = ap (λ (x : Bool). now x (ahead? ss m (best .at))) (sym e₁) ∙ ap (λ (y : Bool). now b₁ y) (sym e₂)
+  as-read : better? s m last l best b ≡ now b₁ b₂
+  as-read = ap (λ (x : Bool). now x (before? s m b (best .at))) (sym e₁) ∙ ap (λ (y : Bool). now b₁ y) (sym e₂)
 
-  pub pick-new : now b₁ b₂ ≡ true → new ≡ picked ss last best m
-  unfolding picked
+  pub pick-new : now b₁ b₂ ≡ true → new ≡ betterOf s m last l best b
+  unfolding betterOf
   pick-new e = sym (ap (λ (c : Bool). cond c new best) (as-read ∙ e))
 
-  pub pick-old : now b₁ b₂ ≡ false → best ≡ picked ss last best m
-  unfolding picked
+  pub pick-old : now b₁ b₂ ≡ false → best ≡ betterOf s m last l best b
+  unfolding betterOf
   pick-old e = sym (ap (λ (c : Bool). cond c new best) (as-read ∙ e))
 
 -- ---- one slot more
@@ -97,8 +98,8 @@ module _ (ss : List Slot) (positive : (n : ℕ) → T (held? ss n) → 0 < slotA
           (⊎-elim (λ a. absurd (not-closer p (or-right (not (best .some)) (ahead? ss m (best .at)) a))) (λ a. a) (dec (ahead? ss m (best .at)))))))
           (dec (eqb m (best .at)))
 
-  pub one-more : FirstLeft ss last (m + 1) (picked ss last best m)
-  unfolding picked
+  pub one-more : FirstLeft ss last (m + 1) (betterOf (slotAt ss m) m last (slotAt ss (last .at)) best (slotAt ss (best .at)))
+  unfolding betterOf
   one-more = by (held? ss m && (behind? && closer?)) new-first old-first
     where
       by : (c : Bool) → (T c → FirstLeft ss last (m + 1) (record { some = true; at = m })) → (T (not c) → FirstLeft ss last (m + 1) best) → FirstLeft ss last (m + 1) (cond c (record { some = true; at = m }) best)

@@ -25,10 +25,13 @@ noPick = record { some = false; at = 0 }
 abbrev pub left? : List Slot → Pick → ℕ → Bool
 left? ss last m = held? ss m && (not (last .some) || ahead? ss (last .at) m)
 
--- the better of the pick so far and slot m
-unfoldable pub picked : List Slot → Pick → Pick → ℕ → Pick
-picked ss last best m =
-    cond (held? ss m && ((not (last .some) || ahead? ss (last .at) m) && (not (best .some) || ahead? ss m (best .at)))) (record { some = true; at = m }) best
+-- s, slot m, is held, comes behind l, the last one, and before b, the best so far, where there are such
+abbrev pub better? : Slot → ℕ → Pick → Slot → Pick → Slot → Bool
+better? s m last l best b = s .held && ((not (last .some) || before? l (last .at) s m) && (not (best .some) || before? s m b (best .at)))
+
+-- the best then
+unfoldable pub betterOf : Slot → ℕ → Pick → Slot → Pick → Slot → Pick
+betterOf s m last l best b = cond (better? s m last l best b) (record { some = true; at = m }) best
 
 -- the first of the slots below n that are left, or that none is
 pub record FirstLeft (ss : List Slot) (last : Pick) (n : ℕ) (r : Pick) : Type 0 where

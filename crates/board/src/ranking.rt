@@ -3,7 +3,7 @@ ghost use Prim.Native.Nat.{_*_, _<_};
 ghost use mathlib.Core.Path.{_≡_};
 ghost use lib.Dec.{T};
 ghost use Rattle.board.specs.Deciding.{goodLent?};
-ghost use Rattle.board.specs.Ordering.{before?, picked, Follows, Orders, RanksLent};
+ghost use Rattle.board.specs.Ordering.{before?, betterOf, Follows, Orders, RanksLent};
 use crate::submissions;
 use slots::Lent;
 use slots::Slot;
@@ -38,16 +38,12 @@ pub(crate) fn before(x: Slot, m: usize, y: Slot, n: usize) -> bool
     (p < q) | ((p == q) & (m < n))
 }
 
-// The better of the slot picked so far and slot m, which counts where it is held and comes behind the last one.
-pub(crate) fn better(lent: Lent, last: Pick, best: Pick, m: usize) -> Pick
-    requires { ⌜ (m < 16) × (last .at < 16) × (best .at < 16) ⌝ }
-    ensures { λ r. ⌜ r ≡ picked (lent .slots) last best m ⌝ }
+// The best so far, with slot m looked at: it is the best where it is held and comes behind the last one and before the best.
+pub(crate) fn better(s: Slot, m: usize, last: Pick, l: Slot, best: Pick, b: Slot) -> Pick
+    ensures { λ r. ⌜ r ≡ betterOf s m last l best b ⌝ }
 {
-    let l = last.at;
-    let b = best.at;
-    let s = lent.slots[m];
-    let behind = !last.some | before(lent.slots[l], l, s, m);
-    let closer = !best.some | before(s, m, lent.slots[b], b);
+    let behind = !last.some | before(l, last.at, s, m);
+    let closer = !best.some | before(s, m, b, best.at);
     if s.held & (behind & closer) {
         return Pick { some: true, at: m };
     }
@@ -59,10 +55,15 @@ pub(crate) fn next(lent: Lent, last: Pick) -> Pick
     requires { ⌜ T (goodLent? lent) × (last .at < 16) ⌝ }
     ensures { λ r. ⌜ Follows (lent .slots) last r ⌝ }
 {
+    let behind = last.at;
+    let l = lent.slots[behind];
     let mut best = Pick { some: false, at: 0 };
     let mut m = 0;
     while m < 16 {
-        best = better(lent, last, best, m);
+        let s = lent.slots[m];
+        let so_far = best.at;
+        let b = lent.slots[so_far];
+        best = better(s, m, last, l, best, b);
         m += 1;
     }
     best

@@ -37,13 +37,12 @@ pub(crate) fn start(count: usize) -> Lent
 }
 
 // One more slot is read.
-pub(crate) fn with(lent: Lent, at: usize, slot: Slot) -> Lent
+pub(crate) fn with(mut lent: Lent, at: usize, slot: Slot) -> Lent
     requires { ⌜ at < 16 ⌝ }
     ensures { λ r. ⌜ r ≡ withSlot lent at slot ⌝ }
 {
-    let mut next = lent;
-    next.slots[at] = slot;
-    next
+    lent.slots[at] = slot;
+    lent
 }
 
 // The slots that a caller lends, by value.

@@ -1,3 +1,4 @@
+-- Proof of `next`: after m turns the best is the first of the slots below m that are left (`PickLaws`).
 use Prim.Native.Nat.{_≤_, _+_, _-_}
 use mathlib.Core.Path.{_≡_, sym, subst}
 use native.Mathlib.Omega.{arith}
@@ -12,45 +13,53 @@ use Rattle.board.proofs.ranking.next.Statement.{statement}
 use Rattle.board.proofs.ranking.next.Tie as tie
 
 abbrev Inv-loop : tie.InvT-loop
-Inv-loop lent last best₀ m₀ best m = (m ≤ 16) × FirstLeft (lent .slots) last m best
+Inv-loop last lent behind l best₀ m₀ best m = (m ≤ 16) × FirstLeft (lent .slots) last m best
 
 abbrev μ-loop : tie.MeasureT-loop
-μ-loop lent last best₀ m₀ best m = 16 - m
+μ-loop last lent behind l best₀ m₀ best m = 16 - m
 
--- src/ranking.rt:62:5
+element-copy-out-l : tie.Need-element-copy-out-l Inv-loop μ-loop
+element-copy-out-l c = c .pre .1
+
 loop-holds : tie.Need-loop-holds Inv-loop μ-loop
-loop-holds c = (omega arith, none-yet (c .args .lent .slots) (c .args .last))
+loop-holds c = (omega arith, none-yet (c .before .args .t1 .slots) (c .before .args .last))
 
--- src/ranking.rt:63:9
-better-requires : tie.Need-better-requires Inv-loop μ-loop
-better-requires c κs = (omega arith, c .before .before .pre .1, c .before .loop .inv .1 .there)
+element-copy-out-b : tie.Need-element-copy-out-b Inv-loop μ-loop
+element-copy-out-b c = c .before .before .loop .inv .1 .there
 
--- src/ranking.rt:64:9
-add-m : tie.Need-add-m Inv-loop μ-loop
-add-m c = search needs
-
--- src/ranking.rt:62:5
-loop-less : tie.Need-loop-less Inv-loop μ-loop
-loop-less c = search needs
-
--- src/ranking.rt:62:5
 loop-again : tie.Need-loop-again Inv-loop μ-loop
 loop-again c =
-    let turn = c .before .before .loop in
-    let start = c .before .before .before in (
+    let turn = c .before .before .before .before .loop in
+    let start = c .before .before .before .before .before .before in
+    let slots = start .args .t1 .slots in
+    let positive = positive-of slots (second-of (eqb (start .args .t1 .count) 16) (allGood? slots) (start .pre .0)) in (
       omega arith,
-      subst (FirstLeft (start .args .lent .slots) (start .args .last) (turn .m + 1)) (sym (c .better .ensures))
-          (one-more (start .args .lent .slots) (positive-of (start .args .lent .slots) (second-of (eqb (start .args .lent .count) 16) (allGood? (start .args .lent .slots)) (start .pre .0))) (start .args .last) (turn .best) (turn .m) (omega arith) (turn .inv .1)),
+      subst (FirstLeft slots (start .args .last) (turn .m + 1)) (sym (c .better .ensures))
+          (one-more slots positive (start .args .last) (turn .best) (turn .m) (omega arith) (turn .inv .1)),
     )
 
--- src/ranking.rt:56:1
 returns : tie.Need-returns Inv-loop μ-loop
 returns c =
     let turn = c .before .loop in
+    let start = c .before .before .before in
     let e : turn .m ≡ 16 = omega arith in
-    subst (λ k. FirstLeft (c .before .before .args .lent .slots) (c .before .before .args .last) k (turn .best)) e (turn .inv .1)
+    subst (λ k. FirstLeft (start .args .t1 .slots) (start .args .last) k (turn .best)) e (turn .inv .1)
 
 pub next-spec : {M : Type 1} → statement M
 next-spec =
     tie.close
-    (tie.spec Inv-loop μ-loop loop-holds better-requires add-m loop-less loop-again returns)
+    (tie.spec
+    Inv-loop
+    μ-loop
+    (λ c. search needs)
+    element-copy-out-l
+    loop-holds
+    (λ c. search needs)
+    (λ c. search needs)
+    (λ c. search needs)
+    element-copy-out-b
+    (λ c κs. search needs)
+    (λ c. search needs)
+    (λ c. search needs)
+    loop-again
+    returns)
