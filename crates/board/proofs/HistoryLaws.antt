@@ -1,6 +1,6 @@
 -- Document 02, card 3: what holds of every list of submissions from a fresh board. A slot shows its last accepted one; what that certified bounds every
 -- scheduler; and 54 never comes from the board itself. Assumes nothing.
-use Prim.Native.Nat.{ℕ, zero, suc, _<_, _≤_, _-_}
+use Prim.Native.Nat.{ℕ, suc, _<_, _≤_, _-_}
 use native.Mathlib.Omega.{arith}
 use mathlib.Core.Path.{_≡_, sym, ap, subst, _∙_}
 use mathlib.Core.Logic.{inl, inr}
@@ -26,6 +26,7 @@ use Rattle.board.specs.Submissions.{Submission, Turn, submitted, inRange
 use Rattle.board.specs.History.{Fresh, History, start, then, Grant, lastAfter, lastOf, Shows, ShowsLast, BoundsLast}
 use Rattle.board.proofs.Tests.{first-of, second-of, or-left}
 use Rattle.board.proofs.GivenLaws.{could-give}
+use Rattle.board.proofs.SlotLaws.{every-set}
 
 -- ---- an accepted submission
 
@@ -107,13 +108,6 @@ bounds-last h = record { bounds = λ n g e. subst Bounded e (bounded-on h n none
 pub record InRange (B : Board) : Type 0 where
   pub slots : T (goodSlots? (B .slots))
   pub ledger : T (goodLedger? (B .ledger))
-
-every-set : {A : Type 0} (f : A → Bool) (xs : List A) (n : ℕ) (x : A) → T (every? f xs) → T (f x) → T (every? f (set xs n x))
-unfolding every?
-every-set f [] n x g h = g
-every-set f (y ∷ xs) zero x g h = and (f x) (every? f xs) h (second-of (f y) (every? f xs) g)
-every-set f (y ∷ xs) (suc n) x g h =
-    and (f y) (every? f (set xs n x)) (first-of (f y) (every? f xs) g) (every-set f xs n x (second-of (f y) (every? f xs) g) h)
 
 -- the slots
 slots-stay : (B : Board) (t : Turn) → Says B t → T (goodSlots? (B .slots)) → T (goodSlots? (written (B .slots) (putOf t)))

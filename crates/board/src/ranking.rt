@@ -3,7 +3,7 @@ ghost use Prim.Native.Nat.{_*_, _<_};
 ghost use mathlib.Core.Path.{_≡_};
 ghost use lib.Dec.{T};
 ghost use Rattle.board.specs.Deciding.{goodLent?};
-ghost use Rattle.board.specs.Ordering.{before?, betterOf, Follows, Orders, RanksLent};
+ghost use Rattle.board.specs.Ordering.{before?, betterOf, FirstHeld, Orders, RanksLent};
 use crate::submissions;
 use slots::Lent;
 use slots::Slot;
@@ -17,10 +17,11 @@ pub struct Ranking {
     pub order: [usize; 16],
 }
 
-// A slot by its number, or none.
+// A slot with its number, or none.
 pub struct Pick {
     pub some: bool,
     pub at: usize,
+    pub slot: Slot,
 }
 
 pub(crate) fn product(a: u32, b: u32) -> u64
@@ -38,49 +39,63 @@ pub(crate) fn before(x: Slot, m: usize, y: Slot, n: usize) -> bool
     (p < q) | ((p == q) & (m < n))
 }
 
-// The best so far, with slot m looked at: it is the best where it is held and comes behind the last one and before the best.
-pub(crate) fn better(s: Slot, m: usize, last: Pick, l: Slot, best: Pick, b: Slot) -> Pick
-    ensures { λ r. ⌜ r ≡ betterOf s m last l best b ⌝ }
+// The better of the best so far and slot m, which counts where it is held.
+pub(crate) fn better(s: Slot, m: usize, best: Pick) -> Pick
+    ensures { λ r. ⌜ r ≡ betterOf s m best ⌝ }
 {
-    let behind = !last.some | before(l, last.at, s, m);
-    let closer = !best.some | before(s, m, b, best.at);
-    if s.held & (behind & closer) {
-        return Pick { some: true, at: m };
+    let b = best.slot;
+    let ahead = !best.some | before(s, m, b, best.at);
+    if s.held & ahead {
+        return Pick {
+            some: true,
+            at: m,
+            slot: s,
+        };
     }
     best
 }
 
-// The first of the held slots that come behind the last one.
-pub(crate) fn next(lent: Lent, last: Pick) -> Pick
-    requires { ⌜ T (goodLent? lent) × (last .at < 16) ⌝ }
-    ensures { λ r. ⌜ Follows (lent .slots) last r ⌝ }
+// The first of the held slots.
+pub(crate) fn first(lent: Lent) -> Pick
+    requires { ⌜ T (goodLent? lent) ⌝ }
+    ensures { λ r. ⌜ FirstHeld (lent .slots) 16 r ⌝ }
 {
-    let behind = last.at;
-    let l = lent.slots[behind];
-    let mut best = Pick { some: false, at: 0 };
+    let slot = lent.slots[0];
+    let mut best = Pick {
+        some: false,
+        at: 0,
+        slot: slot,
+    };
     let mut m = 0;
     while m < 16 {
         let s = lent.slots[m];
-        let so_far = best.at;
-        let b = lent.slots[so_far];
-        best = better(s, m, last, l, best, b);
+        best = better(s, m, best);
         m += 1;
     }
     best
 }
 
-// The held slots in rank, where the slots are in range.
+// The held slots in rank, where the slots are in range: the first one, then each time the first of those that are left.
 pub(crate) fn ordered(lent: Lent) -> Ranking
     requires { ⌜ T (goodLent? lent) ⌝ }
     ensures { λ r. ⌜ Orders (lent .slots) r ⌝ }
 {
+    let vacant = Slot {
+        held: false,
+        team: 0,
+        b: 0,
+        whole: 0,
+    };
     let mut order = [0usize; 16];
     let mut count = 0;
-    let mut found = next(lent, Pick { some: false, at: 0 });
+    let mut left = lent;
+    let mut found = first(left);
     while found.some & (count < 16) {
-        order[count] = found.at;
+        let at = found.at;
+        order[count] = at;
         count += 1;
-        found = next(lent, found);
+        left.slots[at] = vacant;
+        found = first(left);
     }
     Ranking {
         number: 0,
