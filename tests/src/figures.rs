@@ -5,27 +5,37 @@ use std::hint::black_box;
 use std::path::PathBuf;
 use std::time::{Duration, Instant};
 
+use crate::kept::{self, Kept};
 use crate::shapes::{Input, Shape};
 use crate::sides::{Plain, Reading, Side, UnderTest};
 
 /// The sides, in the order of the columns.
 pub const SIDES: [&str; 3] = ["judge", "reading", "plain"];
 
-/// A side by its name.
-pub fn side(name: &str) -> Option<Box<dyn Side>> {
-    match name {
-        "judge" => Some(Box::new(UnderTest {
+/// A side that is measured, and the board that it keeps.
+pub struct Measured {
+    side: Box<dyn Side>,
+    board: Box<dyn Kept>,
+}
+
+/// A side by its name, its board with the slots of this input.
+pub fn side(name: &str, input: &Input) -> Option<Measured> {
+    let side: Box<dyn Side> = match name {
+        "judge" => Box::new(UnderTest {
             program: PathBuf::new(),
-        })),
-        "reading" => Some(Box::new(Reading)),
-        "plain" => Some(Box::new(Plain)),
-        _ => None,
-    }
+        }),
+        "reading" => Box::new(Reading),
+        "plain" => Box::new(Plain),
+        _ => return None,
+    };
+    let board = kept::board(name, &input.slots())?;
+    Some(Measured { side, board })
 }
 
 /// All sides, in the order of `SIDES`.
-fn sides() -> Vec<Box<dyn Side>> {
-    SIDES.iter().filter_map(|name| side(name)).collect()
+fn sides(input: &Input) -> Vec<Measured> {
+    let named = |name: &&str| side(name, input);
+    SIDES.iter().filter_map(named).collect()
 }
 
 /// Nanoseconds for one call: the least and the middle of some rounds.
@@ -36,14 +46,15 @@ pub struct Time {
 
 /// How long a line takes on each side.
 pub fn times(shape: &Shape, rounds: usize) -> Vec<Time> {
-    let (input, sides) = (shape.input(), sides());
-    agree(shape, &input, &sides);
-    let repeats: Vec<u32> = sides.iter().map(|side| repeats(&input, &**side)).collect();
+    let input = shape.input();
+    let mut sides = sides(&input);
+    agree(shape, &input, &mut sides);
+    let repeats: Vec<u32> = sides.iter_mut().map(|side| repeats(&input, side)).collect();
     let mut times = vec![Vec::new(); sides.len()];
     // The sides take turns, so that what else the machine does falls on all.
     for _ in 0..rounds {
-        for (number, side) in sides.iter().enumerate() {
-            let time = time(&input, &**side, repeats[number]);
+        for (number, side) in sides.iter_mut().enumerate() {
+            let time = time(&input, side, repeats[number]);
             times[number].push(time.as_nanos() as f64 / f64::from(repeats[number]));
         }
     }
@@ -60,19 +71,23 @@ impl Time {
     }
 }
 
-/// All sides must accept, with the same answer.
-fn agree(shape: &Shape, input: &Input, sides: &[Box<dyn Side>]) {
-    let answers: Vec<_> = sides.iter().map(|side| input.ask(&**side)).collect();
+/// All sides must accept, with the same answer and the same rank of their boards after it.
+fn agree(shape: &Shape, input: &Input, sides: &mut [Measured]) {
+    let answers: Vec<_> = sides
+        .iter_mut()
+        .map(|Measured { side, board }| (input.ask(&**side, &mut **board), board.ranking()))
+        .collect();
     let same = answers.iter().all(|answer| *answer == answers[0]);
+    let (answer, ranking) = &answers[0];
     assert!(
-        same && !answers[0].is_refusal(),
+        same && !answer.is_refusal() && ranking.is_ok(),
         "{}: {answers:?}",
         shape.name()
     );
 }
 
 /// How often a call runs in about 20 milliseconds.
-fn repeats(input: &Input, side: &dyn Side) -> u32 {
+fn repeats(input: &Input, side: &mut Measured) -> u32 {
     let mut repeats = 1;
     while time(input, side, repeats) < Duration::from_millis(20) {
         repeats *= 2;
@@ -81,16 +96,18 @@ fn repeats(input: &Input, side: &dyn Side) -> u32 {
 }
 
 /// How long so many calls take.
-fn time(input: &Input, side: &dyn Side, calls: u32) -> Duration {
+fn time(input: &Input, side: &mut Measured, calls: u32) -> Duration {
     let begun = Instant::now();
     repeat(input, side, calls);
     begun.elapsed()
 }
 
 /// So many calls.
-pub fn repeat(input: &Input, side: &dyn Side, calls: u32) {
+pub fn repeat(input: &Input, measured: &mut Measured, calls: u32) {
+    let Measured { side, board } = measured;
+    let (side, board) = (&**side, &mut **board);
     for _ in 0..calls {
-        black_box(input.ask(side));
+        black_box(input.ask(side, board));
     }
 }
 
@@ -111,7 +128,29 @@ mod tests {
     #[test]
     fn all_sides_accept_every_line_alike() {
         for shape in shapes::all() {
-            agree(&shape, &shape.input(), &sides());
+            let input = shape.input();
+            agree(&shape, &input, &mut sides(&input));
+        }
+    }
+
+    #[test]
+    fn a_full_board_ranks_as_worked_out_by_hand() {
+        let order = vec![7, 13, 14, 3, 9, 0, 6, 10, 1, 5, 12, 15, 4, 8, 2, 11];
+        for measured in sides(&Shape::Rank { held: true }.input()) {
+            assert_eq!(measured.board.ranking(), Ok(order.clone()));
+        }
+    }
+
+    #[test]
+    fn the_allowance_does_not_run_out() {
+        for held in [false, true] {
+            let input = Shape::Submit { held }.input();
+            for mut measured in sides(&input) {
+                repeat(&input, &mut measured, 101);
+                let Measured { side, board } = &mut measured;
+                let answer = input.ask(&**side, &mut **board);
+                assert!(!answer.is_refusal(), "{answer:?}");
+            }
         }
     }
 }

@@ -4,7 +4,7 @@
 use std::process::{Command, Stdio};
 
 use crate::comparer::Fault;
-use crate::shapes::Input;
+use crate::shapes::{Input, SLOTS};
 
 pub fn has_valgrind() -> bool {
     let version = Command::new("valgrind")
@@ -27,9 +27,10 @@ pub struct Counts {
 }
 
 /// The counts for one call of a side on the line of this number. What a run of the program needs
-/// besides, and what first calls need, is in the run with fewer calls as well, and falls out.
+/// besides, and what first calls need, is in the run with fewer calls as well, and falls out. A rank
+/// has no words, and as many calls as if it had one for each slot.
 pub fn per_call(line: usize, side: &str, input: &Input) -> Result<Counts, Fault> {
-    let calls = 1 + 20_000 / input.words() as u64;
+    let calls = 1 + 20_000 / input.words().max(SLOTS) as u64;
     let fewer = of_run(line, side, calls)?;
     let more = of_run(line, side, 2 * calls)?;
     Ok(Counts {

@@ -9,7 +9,7 @@
 //! valuations that are tried one by one (`points`, `player`, `witness`). `self_check` shows that the
 //! tests can fail, with judges and boards that are wrong on purpose (`wrong`, `flawed`,
 //! `flawed_board`). `figures` says how long a call takes on each side, `instructions` how many
-//! instructions it needs, on the inputs of `shapes`.
+//! instructions it needs, on the inputs of `shapes` and the boards of `kept`.
 
 pub mod boundaries;
 pub mod cases;
@@ -25,6 +25,7 @@ pub mod flawed_board;
 pub mod garbage;
 pub mod histories;
 pub mod instructions;
+pub mod kept;
 pub mod models;
 pub mod mutate;
 pub mod plain;

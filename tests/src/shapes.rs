@@ -1,9 +1,10 @@
-//! The inputs of the figures: by name, with their words, and asked of any side.
+//! The inputs of the figures: by name, with their words and slots, and asked of any side.
 
 use std::hint::black_box;
 
+use crate::kept::{Kept, Submission};
 use crate::random::Random;
-use crate::reading::{Bound, Certificate, Counts, Refusal};
+use crate::reading::{Bound, Certificate, Counts, Refusal, Slot};
 use crate::sides::Side;
 use crate::{spell, worked};
 
@@ -13,8 +14,11 @@ pub const LONGEST: usize = 16_384;
 /// How many nodes a table has at most.
 const MOST_NODES: usize = 64;
 
-/// A line of the figures. The number of the last four is how many words the table, the model, the
-/// zone or both zones together have.
+/// How many slots a board has.
+pub const SLOTS: usize = 16;
+
+/// A line of the figures. The number of those that are long is how many words the table, the model,
+/// the zone or both zones together have. A board has all slots held or none.
 #[derive(Clone, Copy)]
 pub enum Shape {
     Worked,
@@ -25,6 +29,8 @@ pub enum Shape {
     LongModel(usize),
     LongZone(usize),
     LongZones(usize),
+    Submit { held: bool },
+    Rank { held: bool },
 }
 
 /// The lines, in the order in which they are printed.
@@ -43,6 +49,8 @@ pub fn all() -> Vec<Shape> {
             Shape::LongZones(words),
         ]);
     }
+    shapes.extend([false, true].map(|held| Shape::Submit { held }));
+    shapes.extend([false, true].map(|held| Shape::Rank { held }));
     shapes
 }
 
@@ -68,6 +76,10 @@ impl Shape {
             Shape::LongModel(_) => "read a model",
             Shape::LongZone(_) => "is a zone empty",
             Shape::LongZones(_) => "one zone inside another",
+            Shape::Submit { held: false } => "submit, worked case, fresh board",
+            Shape::Submit { held: true } => "submit, worked case, full board",
+            Shape::Rank { held: false } => "rank, no slot held",
+            Shape::Rank { held: true } => return format!("rank, {SLOTS} slots held"),
         };
         name.to_string()
     }
@@ -84,6 +96,8 @@ impl Shape {
             Shape::LongModel(words) => Input::Model(long_model(words)),
             Shape::LongZone(words) => Input::Zone(bounds(1, words)),
             Shape::LongZones(words) => Input::Zones(bounds(1, words / 2), bounds(2, words / 2)),
+            Shape::Submit { held } => Input::Submission(board(held), worked_submission()),
+            Shape::Rank { held } => Input::Rank(board(held)),
         }
     }
 }
@@ -99,13 +113,17 @@ pub enum Input {
     Model(Vec<u32>),
     Zone(Vec<u32>),
     Zones(Vec<u32>, Vec<u32>),
+    Submission([Slot; SLOTS], Submission),
+    Rank([Slot; SLOTS]),
 }
 
+/// What a call answers; the list of a rank is not in it, since each side has its own form for it.
 #[derive(Debug, PartialEq)]
 pub enum Answer {
     Judged(Result<Certificate, Refusal>),
     Read(Result<Counts, Refusal>),
     Asked(Result<bool, Refusal>),
+    Ranked,
 }
 
 impl Answer {
@@ -114,6 +132,7 @@ impl Answer {
             Answer::Judged(answer) => answer.is_err(),
             Answer::Read(answer) => answer.is_err(),
             Answer::Asked(answer) => answer.is_err(),
+            Answer::Ranked => false,
         }
     }
 }
@@ -125,17 +144,79 @@ impl Input {
                 first.len() + second.len()
             }
             Input::Model(words) | Input::Zone(words) => words.len(),
+            Input::Submission(_, submission) => submission.model.len() + submission.table.len(),
+            Input::Rank(_) => 0,
         }
     }
 
-    /// One call, of which the compiler knows nothing beforehand.
-    pub fn ask(&self, side: &dyn Side) -> Answer {
+    /// The slots that a side prepares before its calls.
+    pub fn slots(&self) -> [Slot; SLOTS] {
+        match self {
+            Input::Submission(slots, _) | Input::Rank(slots) => *slots,
+            _ => board(false),
+        }
+    }
+
+    /// One call, of which the compiler knows nothing beforehand. The board is this side's, with the
+    /// slots of this input. Inlined, since what stands around a call is counted with it.
+    #[inline]
+    pub fn ask(&self, side: &dyn Side, board: &mut dyn Kept) -> Answer {
         match black_box(self) {
             Input::Judging(model, table) => Answer::Judged(side.judge(model, table)),
             Input::Model(words) => Answer::Read(side.read_model(words)),
             Input::Zone(words) => Answer::Asked(side.zone_empty(4, words)),
             Input::Zones(first, second) => Answer::Asked(side.zone_inside(4, first, second)),
+            Input::Submission(_, submission) => Answer::Judged(board.submit(submission)),
+            Input::Rank(_) => {
+                board.rank();
+                Answer::Ranked
+            }
         }
+    }
+}
+
+/// The fractions of a full board: not in order, some of them equal, large and small denominators.
+const FRACTIONS: [(u32, u32); SLOTS] = [
+    (3, 10),
+    (2, 4),
+    (1, 1),
+    (1, 10),
+    (7, 9),
+    (1, 2),
+    (333_333, 1_000_000),
+    (0, 7),
+    (999_999, 1_000_000),
+    (2, 20),
+    (1, 3),
+    (0x0FFF_FFFF, 0x0FFF_FFFF),
+    (3, 6),
+    (0, 1),
+    (1, 0x0FFF_FFFF),
+    (5, 8),
+];
+
+/// A full board, on which each team holds two slots, or a fresh one.
+fn board(held: bool) -> [Slot; SLOTS] {
+    let slot = |number: usize| Slot {
+        held: true,
+        team: 7 - number as u32 % 8,
+        b: FRACTIONS[number].0,
+        whole: FRACTIONS[number].1,
+    };
+    match held {
+        true => std::array::from_fn(slot),
+        false => [Slot::VACANT; SLOTS],
+    }
+}
+
+/// The worked case, by the team that has slot 4 of a full board.
+fn worked_submission() -> Submission {
+    Submission {
+        left: 50,
+        team: 3,
+        slot: 4,
+        model: worked::MODEL.to_vec(),
+        table: worked::TABLE.to_vec(),
     }
 }
 

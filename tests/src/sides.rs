@@ -132,7 +132,8 @@ impl Side for Plain {
     }
 }
 
-fn plain_slot(slot: &Slot) -> plain::Slot {
+/// A slot as the plain judge has it.
+pub fn plain_slot(slot: &Slot) -> plain::Slot {
     plain::Slot {
         held: slot.held,
         team: slot.team,
@@ -141,7 +142,7 @@ fn plain_slot(slot: &Slot) -> plain::Slot {
     }
 }
 
-fn plainly_judged(
+pub fn plainly_judged(
     answer: Result<plain::Certificate, plain::Refusal>,
 ) -> Result<Certificate, Refusal> {
     let accepted = answer.map_err(plainly_refused)?;
@@ -152,7 +153,7 @@ fn plainly_judged(
     })
 }
 
-fn plainly_refused(plain::Refusal { number, place }: plain::Refusal) -> Refusal {
+pub fn plainly_refused(plain::Refusal { number, place }: plain::Refusal) -> Refusal {
     Refusal { number, place }
 }
 
@@ -252,19 +253,23 @@ const NEIGHBOUR: miss_chance::Slot = miss_chance::Slot {
 
 /// The slots as the package has them, between two neighbours.
 fn between_neighbours(slots: &[Slot]) -> Vec<miss_chance::Slot> {
-    let lent = |slot: &Slot| miss_chance::Slot {
-        held: slot.held,
-        team: slot.team,
-        b: slot.b,
-        whole: slot.whole,
-    };
     let mut room = vec![NEIGHBOUR];
-    room.extend(slots.iter().map(lent));
+    room.extend(slots.iter().map(lent_slot));
     room.push(NEIGHBOUR);
     room
 }
 
-fn judged(verdict: miss_chance::Verdict) -> Result<Certificate, Refusal> {
+/// A slot as the package has it.
+pub fn lent_slot(slot: &Slot) -> miss_chance::Slot {
+    miss_chance::Slot {
+        held: slot.held,
+        team: slot.team,
+        b: slot.b,
+        whole: slot.whole,
+    }
+}
+
+pub fn judged(verdict: miss_chance::Verdict) -> Result<Certificate, Refusal> {
     let accepted = verdict.result().map_err(refused)?;
     Ok(Certificate {
         b: accepted.b,
@@ -291,7 +296,7 @@ fn write_in_parts(mut input: ChildStdin, bytes: &[u8]) -> std::io::Result<()> {
 }
 
 /// A refusal in the documents' numbers.
-fn refused(refusal: miss_chance::Refusal) -> Refusal {
+pub fn refused(refusal: miss_chance::Refusal) -> Refusal {
     Refusal {
         number: refusal.reason.number(),
         place: refusal.place,

@@ -92,9 +92,10 @@ fn once(line: &str, side: &str, calls: &str) -> Result<(), Fault> {
     let shapes = shapes::all();
     let number: usize = line.parse().map_err(|_| unknown())?;
     let shape = shapes.get(number).ok_or_else(unknown)?;
-    let side = figures::side(side).ok_or_else(unknown)?;
+    let input = shape.input();
+    let mut side = figures::side(side, &input).ok_or_else(unknown)?;
     let calls = calls.parse().map_err(|_| unknown())?;
-    figures::repeat(&shape.input(), &*side, calls);
+    figures::repeat(&input, &mut side, calls);
     Ok(())
 }
 
@@ -125,6 +126,7 @@ fn spelled_out(numbers: &[u64]) -> Vec<String> {
 /// Least and middle, in the unit that suits them.
 fn spelled(time: &Time) -> String {
     let (unit, digits, name) = match time.least {
+        least if least < 1e2 => (1.0, 1, "ns"),
         least if least < 1e5 => (1e3, 2, "µs"),
         _ => (1e6, 3, "ms"),
     };
