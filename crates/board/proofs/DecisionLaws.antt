@@ -19,10 +19,11 @@ use Rattle.slots.specs.Slots.{slotAt}
 use Rattle.slots.specs.Loading.{Loads}
 use Rattle.board.specs.declared.submissions.Ledger.{Ledger}
 use Rattle.board.specs.declared.submissions.Request.{Request}
+use Rattle.board.specs.declared.submissions.Reply.{Reply}
 use Rattle.board.specs.declared.submissions.Decision.{Decision}
 use Rattle.board.specs.Board.{allGood?, goodSlots?, goodLedger?, spend, board}
 use Rattle.board.specs.Submissions.{Submission, submitted, inRange?, unspent?, mayWrite?, mayTake?, Says, Put, leaves, puts, putOf, written, judged?, ledgerAfter}
-use Rattle.board.specs.Replies.{submission, replyOf, Submits}
+use Rattle.board.specs.Replies.{submission, replyOf, Accepting, Submits}
 use Rattle.board.specs.Deciding.{goodLent?, lentInRange?, Declines, Grants, Writes, Decides}
 use Rattle.board.proofs.Tests.{no, first-of, second-of, some-fails, all-hold}
 
@@ -60,14 +61,15 @@ module _ (lent : Lent) (l : Ledger) (q : Request) (model table : List ℕ) where
     named t = ap (λ (x : List Slot). mayWrite? (q .team) (slotAt x (q .slot))) (as-read ss lent h (first-of (goodLent? lent) own t))
 
   -- 54 to 56
-  module _ (n : ℕ) (r : Decision) (d : Declines n 0 l r) where
+  module _ (n : ℕ) (positive : n ≡ 0 → ⊥) (r : Decision) (d : Declines n 0 l r) where
     stops : ((ss : List Slot) → Loads ss lent → Says (board ss l) (submitted s (refused n 0))) →
         ((ss : List Slot) → Loads ss lent → T (judged? (board ss l) s) → ⊥) → Decides lent l s r
     unfolding replyOf putOf ledgerAfter
     stops says not-judged = record {
       said = refused n 0;
       replies = d .answer;
-      writes = d .at;
+      accepts = λ e. absurd (positive (sym (ap (λ (a : Reply). a .number) (d .answer)) ∙ e));
+      writes = (d .at, d .slot);
       bounds = tt;
       says = says;
       ledger = λ ss h. d .ledger ∙ some-fails (inRange? (board ss l) s) (unspent? (board ss l)) (mayTake? (board ss l) s) (spend l) l (not-judged ss h);
@@ -75,7 +77,7 @@ module _ (lent : Lent) (l : Ledger) (q : Request) (model table : List ℕ) where
 
   pub out-of-range : (r : Decision) → not (lentInRange? lent l q) ≡ true → Declines 54 0 l r → Decides lent l s r
   out-of-range r e d =
-      stops 54 r d (λ ss h. inr (bad ss h, refl))
+      stops 54 (λ e. omega (arith, e)) r d (λ ss h. inr (bad ss h, refl))
       (λ ss h t. bad ss h (first-of (inRange? (board ss l) s) (unspent? (board ss l) && mayTake? (board ss l) s) t))
     where
       bad : (ss : List Slot) → Loads ss lent → T (inRange? (board ss l) s) → ⊥
@@ -90,7 +92,7 @@ module _ (lent : Lent) (l : Ledger) (q : Request) (model table : List ℕ) where
     rest ss t = second-of (inRange? (board ss l) s) (unspent? (board ss l) && mayTake? (board ss l) s) t
 
     pub spent-out : (r : Decision) → l .allowance ≡ 0 → Declines 55 0 l r → Decides lent l s r
-    spent-out r e d = stops 55 r d (λ ss h. inl (in-range ss h, inr (none, refl))) (λ ss h t. none (first-of (unspent? (board ss l)) (mayTake? (board ss l) s) (rest ss t)))
+    spent-out r e d = stops 55 (λ e. omega (arith, e)) r d (λ ss h. inl (in-range ss h, inr (none, refl))) (λ ss h t. none (first-of (unspent? (board ss l)) (mayTake? (board ss l) s) (rest ss t)))
       where
         none : T (ltb 0 (l .allowance)) → ⊥
         none t = let m : 0 < l .allowance = ltb→lt 0 (l .allowance) t in omega (arith, e)
@@ -101,7 +103,7 @@ module _ (lent : Lent) (l : Ledger) (q : Request) (model table : List ℕ) where
 
       pub held-by-other : (r : Decision) → not (mayWrite? (q .team) (slotAt (lent .slots) (q .slot))) ≡ true → Declines 56 0 l r → Decides lent l s r
       held-by-other r e d =
-          stops 56 r d (λ ss h. inl (in-range ss h, inl (unspent, inr (other ss h, refl))))
+          stops 56 (λ e. omega (arith, e)) r d (λ ss h. inl (in-range ss h, inl (unspent, inr (other ss h, refl))))
           (λ ss h t. other ss h (second-of (unspent? (board ss l)) (mayTake? (board ss l) s) (rest ss t)))
         where
           other : (ss : List Slot) → Loads ss lent → T (mayTake? (board ss l) s) → ⊥
@@ -113,12 +115,13 @@ module _ (lent : Lent) (l : Ledger) (q : Request) (model table : List ℕ) where
         may-take : (ss : List Slot) → Loads ss lent → T (mayTake? (board ss l) s)
         may-take ss h = subst T (named ss h range) may
 
-        reaches : (a : Answer Certificate) → numberedAnswer v ≡ a → r .submitted .answer ≡ replyOf a → Writes (putOf (submitted s a)) (r .at) (r .slot) →
+        reaches : (a : Answer Certificate) → numberedAnswer v ≡ a → r .submitted .answer ≡ replyOf a → (r .submitted .answer .number ≡ 0 → Accepting a) → Writes (putOf (submitted s a)) (r .at) (r .slot) →
             r .submitted .ledger ≡ spend l → Decides lent l s r
         unfolding ledgerAfter
-        reaches a e replies writes spends = record {
+        reaches a e replies accepts writes spends = record {
           said = a;
           replies = replies;
+          accepts = accepts;
           writes = writes;
           bounds = subst (BoundsSchedulers model) e bounds;
           says = λ ss h. inl (in-range ss h, inl (unspent, inl (may-take ss h, subst (Judged model table) e judged)));
@@ -128,17 +131,17 @@ module _ (lent : Lent) (l : Ledger) (q : Request) (model table : List ℕ) where
 
         pub judge-refuses : (v .number ≡ 0 → ⊥) → Declines (v .number) (v .place) (spend l) r → Decides lent l s r
         unfolding replyOf putOf
-        judge-refuses z d = reaches (refused (v .number) (v .place)) (not-zero v z) (d .answer) (d .at) (d .ledger)
+        judge-refuses z d = reaches (refused (v .number) (v .place)) (not-zero v z) (d .answer) (λ e. z (sym (ap (λ (a : Reply). a .number) (d .answer)) ∙ e)) (d .at, d .slot) (d .ledger)
 
         pub judge-accepts : v .number ≡ 0 → Grants q (v .certificate) (spend l) r → Decides lent l s r
         unfolding replyOf putOf
-        judge-accepts z g = reaches (accepted (v .certificate)) (is-zero v z) (g .answer) (g .at, g .slot) (g .ledger)
+        judge-accepts z g = reaches (accepted (v .certificate)) (is-zero v z) (g .answer) (λ e. tt) (g .at, g .slot) (g .ledger)
 
 -- ---- what a decision makes of the board
 
 wrote : (ss : List Slot) → length ss < 2 ^ 64 → (at : ℕ) (slot : Slot) (x : Put) → Writes x at slot → set ss at slot ≡ written ss x
 unfolding written
-wrote ss fits at slot leaves h = set-out ss at slot (omega (arith, h))
+wrote ss fits at slot leaves h = set-out ss at slot (omega (arith, h .0))
 wrote ss fits at slot (puts n x) h = ap (λ (k : ℕ). set ss k slot) (h .0) ∙ ap (set ss n) (h .1)
 
 pub submits : (l : Ledger) (s : Submission) (ss after : List Slot) (lent : Lent) (d : Decision) → Loads ss lent → Decides lent l s d → length ss < 2 ^ 64 →
@@ -146,6 +149,7 @@ pub submits : (l : Ledger) (s : Submission) (ss after : List Slot) (lent : Lent)
 submits l s ss after lent d h k fits e = record {
   said = k .said;
   replies = k .replies;
+  accepts = k .accepts;
   does = record {
     says = k .says ss h;
     slots = e ∙ wrote ss fits (d .at) (d .slot) (putOf (submitted s (k .said))) (k .writes);

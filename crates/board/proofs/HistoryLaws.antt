@@ -2,15 +2,15 @@
 -- scheduler; and 54 never comes from the board itself. Assumes nothing.
 use Prim.Native.Nat.{ℕ, suc, _<_, _≤_, _-_}
 use native.Mathlib.Omega.{arith}
-use mathlib.Core.Path.{_≡_, sym, ap, subst, _∙_}
+use mathlib.Core.Path.{_≡_, refl, sym, ap, subst, _∙_}
 use mathlib.Core.Logic.{inl, inr}
 use mathlib.Core.Bool.{Bool, true, false, not, cond, _&&_}
-use mathlib.Core.List.{List, [], _∷_}
+use mathlib.Core.List.{List, [], _∷_, _++_}
 use mathlib.Core.Option.{Option, none, some}
 use lib.Dec.{T, eqb, eqb→eq, eqb-refl, ltb, lt→ltb, leb, leb→le, le→leb}
 use lib.ListN.{length, set, length-set}
 use lib.Seq.{getD-set-same, getD-set-other}
-use Rattle.zone.specs.Checks.{Answer, refused, accepted, Check}
+use Rattle.zone.specs.Checks.{Answer, refused, accepted, Check, test, First}
 use Rattle.zone.proofs.Bools.{by-test, and}
 use Rattle.zone.proofs.CheckLaws.{AllHold}
 use Rattle.model.specs.Model.{modelOf}
@@ -21,11 +21,15 @@ use Rattle.acceptance.proofs.Exact.{promised}
 use Rattle.slots.specs.declared.Slot.{Slot}
 use Rattle.slots.specs.Slots.{vacant, holding, slotAt}
 use Rattle.board.specs.declared.submissions.Ledger.{Ledger}
-use Rattle.board.specs.Board.{couldGive?, goodSlot?, every?, allGood?, goodSlots?, goodLedger?, spend, Board}
+use Rattle.board.specs.declared.submissions.Submitted.{Submitted}
+use Rattle.board.specs.declared.ranking.Ranking.{Ranking}
+use Rattle.board.specs.Board.{couldGive?, goodSlot?, every?, allGood?, goodSlots?, goodLedger?, spend, Board, board}
 use Rattle.board.specs.Submissions.{Submission, Turn, submitted, inRange?, boardChecks, Then, Says, putOf, written, judged?, ledgerAfter, Does}
-use Rattle.board.specs.History.{Fresh, History, start, then, Grant, lastAfter, lastOf, Shows, ShowsLast, BoundsLast}
+use Rattle.board.specs.Ranking.{InRank}
+use Rattle.board.specs.Replies.{rankingOf, Submits, Ranks}
+use Rattle.board.specs.History.{Fresh, History, start, then, Grant, lastAfter, lastOf, Shows, ShowsLast, Bounded, BoundsHeld}
 use Rattle.board.proofs.Tests.{first-of, second-of, or-left}
-use Rattle.board.proofs.GivenLaws.{could-give}
+use Rattle.board.proofs.GivenLaws.{judged-fits}
 use Rattle.board.proofs.SlotLaws.{every-set}
 
 -- ---- an accepted submission
@@ -42,6 +46,14 @@ module _ (B : Board) (s : Submission) (c : Certificate) (h : Says B (submitted s
 
   pub judged : Judged (s .model) (s .table) (accepted c)
   judged = then-accepted (boardChecks B s) (Judged (s .model) (s .table)) c h .1
+
+-- ---- a submission more
+
+-- what a call does to a board goes on with the history that led to it
+pub goes-on : {B last : Board} {ts : List Turn} (s : Submission) (r : Submitted) (ss : List Slot) → History B ts last → (h : Submits last s r ss) →
+    History B (ts ++ (submitted s (h .said) ∷ [])) (board ss (r .ledger))
+goes-on s r ss start h = then (h .does) start
+goes-on s r ss (then d hs) h = then d (goes-on s r ss hs h)
 
 -- ---- what a slot shows
 
@@ -84,24 +96,30 @@ shows-last f h = record { shows = λ n l. shows-on h n (subst (λ (i : ℕ). n <
 
 -- ---- the bound over every scheduler
 
-abbrev Bounded : Option Grant → Type 0
-Bounded none = Unit {0}
-Bounded (some g) = BoundsEvery (modelOf (g .made .model)) (g .certificate .b) (g .certificate .whole)
+abbrev BoundsGrant : Option Grant → Type 0
+BoundsGrant none = Unit {0}
+BoundsGrant (some g) = BoundsEvery (modelOf (g .made .model)) (g .certificate .b) (g .certificate .whole)
 
-bounded-turn : (B after : Board) (t : Turn) → Does B t after → (n : ℕ) (g : Option Grant) → Bounded g → Bounded (lastAfter n g t)
+bounded-turn : (B after : Board) (t : Turn) → Does B t after → (n : ℕ) (g : Option Grant) → BoundsGrant g → BoundsGrant (lastAfter n g t)
 unfolding lastAfter
 bounded-turn B after (submitted s (refused m p)) h n g k = k
 bounded-turn B after (submitted s (accepted c)) h n g k =
-    by-test Bounded (eqb (s .slot) n) (some (record { made = s; certificate = c })) g (λ e. promised (s .model) (s .table) (accepted c) (judged B s c (h .says)))
+    by-test BoundsGrant (eqb (s .slot) n) (some (record { made = s; certificate = c })) g (λ e. promised (s .model) (s .table) (accepted c) (judged B s c (h .says)))
     (λ e. k)
 
-bounded-on : {B last : Board} {ts : List Turn} → History B ts last → (n : ℕ) (g : Option Grant) → Bounded g → Bounded (lastOf n g ts)
+bounded-on : {B last : Board} {ts : List Turn} → History B ts last → (n : ℕ) (g : Option Grant) → BoundsGrant g → BoundsGrant (lastOf n g ts)
 unfolding lastOf
 bounded-on start n g k = k
 bounded-on (then {B} {after} {last} {t} {ts} h hs) n g k = bounded-on hs n (lastAfter n g t) (bounded-turn B after t h n g k)
 
-pub bounds-last : {B last : Board} {ts : List Turn} → History B ts last → BoundsLast ts
-bounds-last h = record { bounds = λ n g e. subst Bounded e (bounded-on h n none tt) }
+pub bounds-held : {B last : Board} {ts : List Turn} → Fresh B → History B ts last → BoundsHeld ts last
+bounds-held {B} {last} {ts} f h = record { held = λ n l t. by n (lastOf n none ts) (shows-last f h .shows n l) (bounded-on h n none tt) refl t }
+  where
+    by : (n : ℕ) (g : Option Grant) → Shows g (slotAt (last .slots) n) → BoundsGrant g → lastOf n none ts ≡ g → T (slotAt (last .slots) n .held) →
+        Bounded ts n (slotAt (last .slots) n)
+    by n none k b e t = absurd (subst T k t)
+    by n (some g) k b e t =
+        record { grant = g; last = e; bounds = subst (λ (x : Slot). BoundsEvery (modelOf (g .made .model)) (x .b) (x .whole)) (sym k) b }
 
 -- ---- 54 never comes from the board itself
 
@@ -117,7 +135,7 @@ slots-stay B (submitted s (accepted c)) h g =
     and (eqb (length (set (B .slots) (s .slot) new)) 16) (allGood? (set (B .slots) (s .slot) new))
     (subst (λ (k : ℕ). T (eqb k 16)) (sym (length-set (B .slots) (s .slot) new)) (first-of (eqb (length (B .slots)) 16) (allGood? (B .slots)) g))
     (every-set (λ (x : Slot). goodSlot? x) (B .slots) (s .slot) new (second-of (eqb (length (B .slots)) 16) (allGood? (B .slots)) g)
-    (and (leb (s .team) 7) (couldGive? (c .b) (c .whole)) team (could-give (c .b) (c .whole) .1 (record { model = s .model; table = s .table; nodes = c .nodes; judged = judged B s c h }))))
+    (and (leb (s .team) 7) (couldGive? (c .b) (c .whole)) team (judged-fits (s .model) (s .table) c (judged B s c h))))
   where
     new : Slot
     new = holding (s .team) (c .b) (c .whole)
@@ -157,9 +175,15 @@ fresh {B} f = record {
   ledger = subst (λ (n : ℕ). T (leb n 100)) (sym (f .allowance)) tt;
 }
 
--- so ranking never gives it
-pub rank-in-range : {B last : Board} {ts : List Turn} → Fresh B → History B ts last → T (goodSlots? (last .slots))
-rank-in-range f h = stays h (fresh f) .slots
+-- so ranking never refuses
+pub rank-in-range : {B last : Board} {ts : List Turn} → Fresh B → History B ts last → (r : Ranking) → Ranks (last .slots) r → r .number ≡ 0
+unfolding rankingOf
+rank-in-range {B} {last} f h r k = ap (λ (x : Ranking). x .number) (k .replies) ∙ by (k .said) (k .ranked .says)
+  where
+    by : (a : Answer (List ℕ)) → First (test 54 0 (goodSlots? (last .slots)) ∷ []) (InRank (last .slots)) a → rankingOf a .number ≡ 0
+    by (accepted ns) s = refl
+    by (refused n p) (inl s) = absurd (s .1)
+    by (refused n p) (inr s) = absurd (s .0 (stays h (fresh f) .slots))
 
 -- and a submission passes its check where its own team and slot are in range
 pub own-in-range : {B last : Board} {ts : List Turn} → Fresh B → History B ts last → (s : Submission) → s .team ≤ 7 → s .slot < 16 → T (inRange? last s)

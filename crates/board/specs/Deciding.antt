@@ -9,14 +9,14 @@ use Rattle.acceptance.specs.declared.certificate.Certificate.{Certificate}
 use Rattle.acceptance.specs.Judging.{BoundsSchedulers}
 use Rattle.slots.specs.declared.Slot.{Slot}
 use Rattle.slots.specs.declared.Lent.{Lent}
-use Rattle.slots.specs.Slots.{holding}
+use Rattle.slots.specs.Slots.{vacant, holding}
 use Rattle.slots.specs.Loading.{Loads}
 use Rattle.board.specs.declared.submissions.Ledger.{Ledger}
 use Rattle.board.specs.declared.submissions.Request.{Request}
 use Rattle.board.specs.declared.submissions.Decision.{Decision}
 use Rattle.board.specs.Board.{allGood?, goodLedger?, board}
 use Rattle.board.specs.Submissions.{Submission, submitted, Says, Put, leaves, puts, putOf, ledgerAfter}
-use Rattle.board.specs.Replies.{replyOf}
+use Rattle.board.specs.Replies.{replyOf, Accepting}
 
 -- the slots that were read are in range
 abbrev pub goodLent? : Lent → Bool
@@ -26,7 +26,7 @@ goodLent? lent = eqb (lent .count) 16 && allGood? (lent .slots)
 abbrev pub lentInRange? : Lent → Ledger → Request → Bool
 lentInRange? lent l q = goodLent? lent && (goodLedger? l && (leb (q .team) 7 && ltb (q .slot) 16))
 
--- a place that no list has
+-- a place that no slice has
 abbrev pub nowhere : ℕ
 nowhere = 0xFFFFFFFFFFFFFFFF
 
@@ -35,6 +35,7 @@ pub record Declines (n p : ℕ) (l : Ledger) (r : Decision) : Type 0 where
   pub answer : r .submitted .answer ≡ record { number = n; place = p; b = 0; whole = 0; nodes = 0 }
   pub ledger : r .submitted .ledger ≡ l
   pub at : r .at ≡ nowhere
+  pub slot : r .slot ≡ vacant
 
 -- the slot is to be written
 pub record Grants (q : Request) (c : Certificate) (l : Ledger) (r : Decision) : Type 0 where
@@ -45,13 +46,14 @@ pub record Grants (q : Request) (c : Certificate) (l : Ledger) (r : Decision) : 
 
 -- the slot to write and its place, or no place
 abbrev pub Writes : Put → ℕ → Slot → Type 0
-Writes leaves at slot = at ≡ nowhere
+Writes leaves at slot = (at ≡ nowhere) × (slot ≡ vacant)
 Writes (puts n x) at slot = (at ≡ n) × (slot ≡ x)
 
 -- what a submission comes to at every board whose slots were read
 pub record Decides (lent : Lent) (l : Ledger) (s : Submission) (r : Decision) : Type 0 where
   pub said : Answer Certificate
   pub replies : r .submitted .answer ≡ replyOf said
+  pub accepts : r .submitted .answer .number ≡ 0 → Accepting said
   pub writes : Writes (putOf (submitted s said)) (r .at) (r .slot)
   pub bounds : BoundsSchedulers (s .model) said
   pub says : (ss : List Slot) → Loads ss lent → Says (board ss l) (submitted s said)

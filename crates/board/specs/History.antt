@@ -4,7 +4,7 @@ use mathlib.Core.Path.{_≡_}
 use mathlib.Core.Bool.{false, cond}
 use mathlib.Core.List.{List, [], _∷_}
 use mathlib.Core.Option.{Option, none, some}
-use lib.Dec.{eqb}
+use lib.Dec.{T, eqb}
 use lib.ListN.{length}
 use Rattle.zone.specs.Checks.{refused, accepted}
 use Rattle.model.specs.Model.{modelOf}
@@ -15,7 +15,7 @@ use Rattle.slots.specs.Slots.{holding, slotAt}
 use Rattle.board.specs.Board.{Board}
 use Rattle.board.specs.Submissions.{Submission, Turn, submitted, Does}
 
--- every slot is vacant, and the allowance is whole
+-- every slot is vacant, and the allowance is 100
 pub record Fresh (B : Board) : Type 0 where
   pub sixteen : length (B .slots) ≡ 16
   pub vacant : (n : ℕ) → n < 16 → slotAt (B .slots) n .held ≡ false
@@ -49,6 +49,12 @@ Shows (some g) x = x ≡ holding (g .made .team) (g .certificate .b) (g .certifi
 pub record ShowsLast (ts : List Turn) (B : Board) : Type 0 where
   pub shows : (n : ℕ) → n < 16 → Shows (lastOf n none ts) (slotAt (B .slots) n)
 
--- what it certified bounds every scheduler of the model that was submitted with it
-pub record BoundsLast (ts : List Turn) : Type 0 where
-  pub bounds : (n : ℕ) (g : Grant) → lastOf n none ts ≡ some g → BoundsEvery (modelOf (g .made .model)) (g .certificate .b) (g .certificate .whole)
+-- what slot x, numbered n, shows bounds every scheduler of the model that was submitted for it last and accepted
+pub record Bounded (ts : List Turn) (n : ℕ) (x : Slot) : Type 0 where
+  pub grant : Grant
+  pub last : lastOf n none ts ≡ some grant
+  pub bounds : BoundsEvery (modelOf (grant .made .model)) (x .b) (x .whole)
+
+-- so it is of every held slot
+pub record BoundsHeld (ts : List Turn) (B : Board) : Type 0 where
+  pub held : (n : ℕ) → n < 16 → T (slotAt (B .slots) n .held) → Bounded ts n (slotAt (B .slots) n)

@@ -1,4 +1,5 @@
--- At most one outcome meets the promise of each call: what it writes and what it returns follow from what it was lent. Assumes nothing.
+-- At most one outcome meets the promise of each of document 01's four calls: what it writes and what it returns follow from what it was lent. Of the
+-- board's two calls `OneAnswer.antt` of `board` says it. Assumes nothing.
 use Prim.Native.Nat.{ℕ, _<_, _≤_}
 use mathlib.Core.Path.{_≡_, sym, ap, _∙_}
 use mathlib.Core.Bool.{Bool}

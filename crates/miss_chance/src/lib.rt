@@ -1,6 +1,6 @@
 // The six calls for C and Rust. A slice passes as a pointer and then a length. Each of document 01's four writes its answer to the first four words of a
 // slice that the caller lends, and returns true; where the slice has fewer than four it writes nothing and returns false. The two of the board, document 02,
-// card 3, hand structs over and back by value; they are the one place where a slice of slots is taken, so they are the calls from Rattle too.
+// card 3, hand structs over and back by value; they are the board's calls from Rattle too.
 mod replies; // replies.rt: each answer as four words
 
 ghost use Rattle.zone.specs.Questions.{AskedEmpty, AskedInside};

@@ -1,3 +1,4 @@
+-- Proof of `start`: the array is 16 vacant slots.
 use borrow.Author.Needs.{needs}
 use Rattle.slots.specs.Loading.{started}
 use Rattle.slots.proofs.start.Statement.{statement}

@@ -1,3 +1,4 @@
+-- Proof of `good_lent`: after i turns the outcome and the slots from i on together say what the definition says (`SlotLaws`).
 use Prim.Native.Nat.{_≤_, _+_, _-_}
 use mathlib.Core.Path.{_≡_, refl, sym, ap, _∙_}
 use mathlib.Core.Bool.{_&&_}
@@ -17,31 +18,24 @@ Inv-loop lent good₀ i₀ good i = (i ≤ 16) × ((length (lent .slots) ≡ 16)
 abbrev μ-loop : tie.MeasureT-loop
 μ-loop lent good₀ i₀ good i = 16 - i
 
--- src/board.rt:52:5
 loop-holds : tie.Need-loop-holds Inv-loop μ-loop
 loop-holds c = (omega arith, (simp length-map at (c .good .0 .1 .1 .1 .0 .1 .0 .1), refl))
 
--- src/board.rt:53:17
 mul-s : tie.Need-mul-s Inv-loop μ-loop
 mul-s c = search needs
 
--- src/board.rt:53:17
 element-copy-out-s : tie.Need-element-copy-out-s Inv-loop μ-loop
 element-copy-out-s c = search needs
 
--- src/board.rt:54:23
 good-slot-requires : tie.Need-good-slot-requires Inv-loop μ-loop
 good-slot-requires c κs = search needs
 
--- src/board.rt:55:9
 add-i : tie.Need-add-i Inv-loop μ-loop
 add-i c = search needs
 
--- src/board.rt:52:5
 loop-less : tie.Need-loop-less Inv-loop μ-loop
 loop-less c = search needs
 
--- src/board.rt:52:5
 loop-again : tie.Need-loop-again Inv-loop μ-loop
 loop-again c =
     let turn = c .before .before .before .loop in
@@ -49,7 +43,6 @@ loop-again c =
     let said = c .good-slot .ensures in
     (omega arith, (turn .inv .1 .0, ap (λ g. (turn .good && g) && allGood? (drop (turn .i + 1) slots)) said ∙ sym (good-on (λ s. goodSlot? s) (turn .good) slots (turn .i) vacant (omega (arith, turn .inv .1 .0))) ∙ turn .inv .1 .1))
 
--- src/board.rt:47:1
 returns : tie.Need-returns Inv-loop μ-loop
 returns c =
     let turn = c .before .loop in
