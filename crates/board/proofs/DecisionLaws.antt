@@ -22,7 +22,8 @@ use Rattle.board.specs.declared.submissions.Request.{Request}
 use Rattle.board.specs.declared.submissions.Reply.{Reply}
 use Rattle.board.specs.declared.submissions.Decision.{Decision}
 use Rattle.board.specs.Board.{allGood?, goodSlots?, goodLedger?, spend, board}
-use Rattle.board.specs.Submissions.{Submission, submitted, inRange?, unspent?, mayWrite?, mayTake?, Says, Put, leaves, puts, putOf, written, judged?, ledgerAfter}
+use Rattle.board.specs.Submissions.{Submission, submitted, inRange?, unspent?, mayWrite?, mayTake?, Says, Put, leaves, puts, putOf, written, judged?}
+use Rattle.board.specs.Submissions.{ledgerAfter}
 use Rattle.board.specs.Replies.{submission, replyOf, Accepting, Submits}
 use Rattle.board.specs.Deciding.{goodLent?, lentInRange?, Declines, Grants, Writes, Decides}
 use Rattle.board.proofs.Tests.{no, first-of, second-of, some-fails, all-hold}
@@ -51,7 +52,8 @@ module _ (lent : Lent) (l : Ledger) (q : Request) (model table : List ℕ) where
 
   pub slot-there : T (lentInRange? lent l q) → q .slot < 16
   slot-there t =
-      ltb→lt (q .slot) 16 (second-of (leb (q .team) 7) (ltb (q .slot) 16) (second-of (goodLedger? l) (leb (q .team) 7 && ltb (q .slot) 16) (second-of (goodLent? lent) own t)))
+      ltb→lt (q .slot) 16 (second-of (leb (q .team) 7) (ltb (q .slot) 16)
+      (second-of (goodLedger? l) (leb (q .team) 7 && ltb (q .slot) 16) (second-of (goodLent? lent) own t)))
 
   module _ (ss : List Slot) (h : Loads ss lent) where
     ranged : lentInRange? lent l q ≡ inRange? (board ss l) s
@@ -92,7 +94,8 @@ module _ (lent : Lent) (l : Ledger) (q : Request) (model table : List ℕ) where
     rest ss t = second-of (inRange? (board ss l) s) (unspent? (board ss l) && mayTake? (board ss l) s) t
 
     pub spent-out : (r : Decision) → l .allowance ≡ 0 → Declines 55 0 l r → Decides lent l s r
-    spent-out r e d = stops 55 (λ e. omega (arith, e)) r d (λ ss h. inl (in-range ss h, inr (none, refl))) (λ ss h t. none (first-of (unspent? (board ss l)) (mayTake? (board ss l) s) (rest ss t)))
+    spent-out r e d = stops 55 (λ e. omega (arith, e)) r d (λ ss h. inl (in-range ss h, inr (none, refl)))
+        (λ ss h t. none (first-of (unspent? (board ss l)) (mayTake? (board ss l) s) (rest ss t)))
       where
         none : T (ltb 0 (l .allowance)) → ⊥
         none t = let m : 0 < l .allowance = ltb→lt 0 (l .allowance) t in omega (arith, e)
@@ -115,7 +118,8 @@ module _ (lent : Lent) (l : Ledger) (q : Request) (model table : List ℕ) where
         may-take : (ss : List Slot) → Loads ss lent → T (mayTake? (board ss l) s)
         may-take ss h = subst T (named ss h range) may
 
-        reaches : (a : Answer Certificate) → numberedAnswer v ≡ a → r .submitted .answer ≡ replyOf a → (r .submitted .answer .number ≡ 0 → Accepting a) → Writes (putOf (submitted s a)) (r .at) (r .slot) →
+        reaches : (a : Answer Certificate) → numberedAnswer v ≡ a → r .submitted .answer ≡ replyOf a → (r .submitted .answer .number ≡ 0 → Accepting a) →
+            Writes (putOf (submitted s a)) (r .at) (r .slot) →
             r .submitted .ledger ≡ spend l → Decides lent l s r
         unfolding ledgerAfter
         reaches a e replies accepts writes spends = record {
@@ -131,7 +135,8 @@ module _ (lent : Lent) (l : Ledger) (q : Request) (model table : List ℕ) where
 
         pub judge-refuses : (v .number ≡ 0 → ⊥) → Declines (v .number) (v .place) (spend l) r → Decides lent l s r
         unfolding replyOf putOf
-        judge-refuses z d = reaches (refused (v .number) (v .place)) (not-zero v z) (d .answer) (λ e. z (sym (ap (λ (a : Reply). a .number) (d .answer)) ∙ e)) (d .at, d .slot) (d .ledger)
+        judge-refuses z d = reaches (refused (v .number) (v .place)) (not-zero v z) (d .answer)
+            (λ e. z (sym (ap (λ (a : Reply). a .number) (d .answer)) ∙ e)) (d .at, d .slot) (d .ledger)
 
         pub judge-accepts : v .number ≡ 0 → Grants q (v .certificate) (spend l) r → Decides lent l s r
         unfolding replyOf putOf

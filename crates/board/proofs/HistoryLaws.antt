@@ -67,7 +67,8 @@ unfolding lastAfter putOf written
 turned B after (submitted s (refused m p)) h n l g k = subst (λ (ss : List Slot). Shows g (slotAt ss n)) (sym (h .slots)) k
 turned B after (submitted s (accepted c)) h n l g k =
     subst (λ (ss : List Slot). Shows (cond (eqb (s .slot) n) (some (record { made = s; certificate = c })) g) (slotAt ss n)) (sym (h .slots))
-    (by-test (λ (x : Option Grant). Shows x (slotAt (set (B .slots) (s .slot) new) n)) (eqb (s .slot) n) (some (record { made = s; certificate = c })) g here there)
+    (by-test (λ (x : Option Grant). Shows x (slotAt (set (B .slots) (s .slot) new) n)) (eqb (s .slot) n)
+    (some (record { made = s; certificate = c })) g here there)
   where
     new : Slot
     new = holding (s .team) (c .b) (c .whole)
@@ -104,7 +105,8 @@ bounded-turn : (B after : Board) (t : Turn) → Does B t after → (n : ℕ) (g 
 unfolding lastAfter
 bounded-turn B after (submitted s (refused m p)) h n g k = k
 bounded-turn B after (submitted s (accepted c)) h n g k =
-    by-test BoundsGrant (eqb (s .slot) n) (some (record { made = s; certificate = c })) g (λ e. promised (s .model) (s .table) (accepted c) (judged B s c (h .says)))
+    by-test BoundsGrant (eqb (s .slot) n) (some (record { made = s; certificate = c })) g (λ e. promised (s .model) (s .table) (accepted c)
+    (judged B s c (h .says)))
     (λ e. k)
 
 bounded-on : {B last : Board} {ts : List Turn} → History B ts last → (n : ℕ) (g : Option Grant) → BoundsGrant g → BoundsGrant (lastOf n g ts)
@@ -165,7 +167,8 @@ vacant-good : (ss : List Slot) → ((n : ℕ) → n < length ss → slotAt ss n 
 unfolding every?
 vacant-good [] h = tt
 vacant-good (x ∷ ss) h =
-    and (goodSlot? x) (allGood? ss) (or-left (not (x .held)) (leb (x .team) 7 && couldGive? (x .b) (x .whole)) (subst (λ (b : Bool). T (not b)) (sym (h 0 (omega arith))) tt))
+    and (goodSlot? x) (allGood? ss) (or-left (not (x .held)) (leb (x .team) 7 && couldGive? (x .b) (x .whole))
+    (subst (λ (b : Bool). T (not b)) (sym (h 0 (omega arith))) tt))
     (vacant-good ss (λ n l. h (suc n) (omega arith)))
 
 fresh : {B : Board} → Fresh B → InRange B

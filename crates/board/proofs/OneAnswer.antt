@@ -38,7 +38,8 @@ then-one (c ∷ cs) P one a b (inr p) (inr q) = p .1 ∙ sym (q .1)
 pub submits-one : (B : Board) (s : Submission) (r q : Submitted) (ss ys : List Slot) → Submits B s r ss → Submits B s q ys → (r ≡ q) × (ss ≡ ys)
 submits-one B s r q ss ys h k = (
   ap (λ (x : Reply). record { answer = x; ledger = r .ledger }) (h .replies ∙ ap replyOf same ∙ sym (k .replies))
-      ∙ ap (λ (l : Ledger). record { answer = q .answer; ledger = l }) (h .does .ledger ∙ ap (λ (a : Answer Certificate). ledgerAfter B (submitted s a)) same ∙ sym (k .does .ledger)),
+      ∙ ap (λ (l : Ledger). record { answer = q .answer; ledger = l })
+      (h .does .ledger ∙ ap (λ (a : Answer Certificate). ledgerAfter B (submitted s a)) same ∙ sym (k .does .ledger)),
   h .does .slots ∙ ap (λ (a : Answer Certificate). written (B .slots) (putOf (submitted s a))) same ∙ sym (k .does .slots),
 )
   where
@@ -85,8 +86,10 @@ module _ (ss : List Slot) (positive : (n : ℕ) → T (held? ss n) → 0 < slotA
       first (zero, (l, e)) q = e
       first (suc i, (l, e)) (zero, (m, f)) = sym f
       first (suc i, (l, e)) (suc j, (m, f)) =
-          absurd (ahead-self ss x (ahead-trans ss positive x y x (held x (h .each 0 (omega arith))) (held y (k .each 0 (omega arith))) (held x (h .each 0 (omega arith)))
-          (subst (λ (n : ℕ). T (ahead? ss x n)) e (h .sorted 0 (suc i) (omega arith) l)) (subst (λ (n : ℕ). T (ahead? ss y n)) f (k .sorted 0 (suc j) (omega arith) m))))
+          absurd (ahead-self ss x (ahead-trans ss positive x y x (held x (h .each 0 (omega arith))) (held y (k .each 0 (omega arith)))
+          (held x (h .each 0 (omega arith)))
+          (subst (λ (n : ℕ). T (ahead? ss x n)) e (h .sorted 0 (suc i) (omega arith) l))
+          (subst (λ (n : ℕ). T (ahead? ss y n)) f (k .sorted 0 (suc j) (omega arith) m))))
 
 pub in-rank-one : (ss : List Slot) → T (allGood? ss) → (xs ys : List ℕ) → InRank ss xs → InRank ss ys → xs ≡ ys
 in-rank-one ss good xs ys h k = lists-one ss (positive-of ss good) (λ n. T (held? ss n)) (λ n t. t) xs ys (as-list h) (as-list k)

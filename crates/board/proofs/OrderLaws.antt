@@ -1,4 +1,5 @@
--- Which slot comes before which: smaller fraction first by cross products, lower number on equality. Among held slots, whose V is at least 1, this is an order. Assumes nothing.
+-- Which slot comes before which: smaller fraction first by cross products, lower number on equality. Among held slots, whose V is at least 1, this is an
+-- order. Assumes nothing.
 use Prim.Native.Nat.{ℕ, zero, suc, _*_, _<_, _≤_}
 use native.Mathlib.Nat.{mul-assoc, mul-comm, mul-le-mul-right, mul-lt-mul-of-pos-right, le-of-mul-le-mul-right, lt-of-mul-lt-mul-right, le-antisymm}
 use native.Mathlib.Omega.{arith}
@@ -45,7 +46,8 @@ abbrev said? : (p q m n : ℕ) → Bool
 said? p q m n = ltb p q || (eqb p q && ltb m n)
 
 read : (p q m n : ℕ) → T (said? p q m n) → Says p q m n
-read p q m n h = ⊎-elim (λ t. inl (ltb→lt p q t)) (λ t. inr (eqb→eq p q (first-of (eqb p q) (ltb m n) t), ltb→lt m n (second-of (eqb p q) (ltb m n) t))) (one-of (ltb p q) (eqb p q && ltb m n) h)
+read p q m n h = ⊎-elim (λ t. inl (ltb→lt p q t)) (λ t. inr (eqb→eq p q (first-of (eqb p q) (ltb m n) t), ltb→lt m n (second-of (eqb p q) (ltb m n) t)))
+    (one-of (ltb p q) (eqb p q && ltb m n) h)
 
 write : (p q m n : ℕ) → Says p q m n → T (said? p q m n)
 write p q m n (inl l) = or-left (ltb p q) (eqb p q && ltb m n) (lt→ltb p q l)
@@ -73,13 +75,15 @@ module _ (ss : List Slot) (positive : (n : ℕ) → T (held? ss n) → 0 < slotA
       write (at a .b * at c .whole) (at c .b * at a .whole) a c
       (by (read (at a .b * at b .whole) (at b .b * at a .whole) a b x) (read (at b .b * at c .whole) (at c .b * at b .whole) b c y))
     where
-      by : Says (at a .b * at b .whole) (at b .b * at a .whole) a b → Says (at b .b * at c .whole) (at c .b * at b .whole) b c → Says (at a .b * at c .whole) (at c .b * at a .whole) a c
+      by : Says (at a .b * at b .whole) (at b .b * at a .whole) a b → Says (at b .b * at c .whole) (at c .b * at b .whole) b c →
+          Says (at a .b * at c .whole) (at c .b * at a .whole) a c
       by (inl p) (inl q) = inl (cross-lt-le (at a .b) (at a .whole) (at b .b) (at b .whole) (at c .b) (at c .whole) (positive c hc) p (omega arith))
       by (inl p) (inr q) = inl (cross-lt-le (at a .b) (at a .whole) (at b .b) (at b .whole) (at c .b) (at c .whole) (positive c hc) p (omega (arith, q .0)))
       by (inr p) (inl q) = inl (cross-le-lt (at a .b) (at a .whole) (at b .b) (at b .whole) (at c .b) (at c .whole) (positive a ha) (omega (arith, p .0)) q)
       by (inr p) (inr q) =
           inr (
-            le-antisymm (cross-le (at a .b) (at a .whole) (at b .b) (at b .whole) (at c .b) (at c .whole) (positive b hb) (omega (arith, p .0)) (omega (arith, q .0)))
+            le-antisymm (cross-le (at a .b) (at a .whole) (at b .b) (at b .whole) (at c .b) (at c .whole) (positive b hb) (omega (arith, p .0))
+                (omega (arith, q .0)))
                 (cross-le (at c .b) (at c .whole) (at b .b) (at b .whole) (at a .b) (at a .whole) (positive b hb) (omega (arith, q .0)) (omega (arith, p .0))),
             omega (arith, p .1, q .1),
           )
@@ -87,10 +91,12 @@ module _ (ss : List Slot) (positive : (n : ℕ) → T (held? ss n) → 0 < slotA
 pub ahead-either : (ss : List Slot) (m n : ℕ) → (m ≡ n → ⊥) → T (not (ahead? ss m n)) → T (ahead? ss n m)
 ahead-either ss m n d h =
     write (slotAt ss n .b * slotAt ss m .whole) (slotAt ss m .b * slotAt ss n .whole) n m
-    (either (slotAt ss m .b * slotAt ss n .whole) (slotAt ss n .b * slotAt ss m .whole) m n d (λ s. never (ahead? ss m n) (write (slotAt ss m .b * slotAt ss n .whole) (slotAt ss n .b * slotAt ss m .whole) m n s) h))
+    (either (slotAt ss m .b * slotAt ss n .whole) (slotAt ss n .b * slotAt ss m .whole) m n d (λ s. never (ahead? ss m n)
+    (write (slotAt ss m .b * slotAt ss n .whole) (slotAt ss n .b * slotAt ss m .whole) m n s) h))
 
 pub ahead-self : (ss : List Slot) (m : ℕ) → T (ahead? ss m m) → ⊥
-ahead-self ss m h = ⊎-elim (λ (l : slotAt ss m .b * slotAt ss m .whole < slotAt ss m .b * slotAt ss m .whole). omega arith) (λ e. let l : m < m = e .1 in omega arith) (read (slotAt ss m .b * slotAt ss m .whole) (slotAt ss m .b * slotAt ss m .whole) m m h)
+ahead-self ss m h = ⊎-elim (λ (l : slotAt ss m .b * slotAt ss m .whole < slotAt ss m .b * slotAt ss m .whole). omega arith)
+    (λ e. let l : m < m = e .1 in omega arith) (read (slotAt ss m .b * slotAt ss m .whole) (slotAt ss m .b * slotAt ss m .whole) m m h)
 
 -- a held slot among good ones has a V of at least 1, and is one of them
 pub positive-of : (ss : List Slot) → T (allGood? ss) → (n : ℕ) → T (held? ss n) → 0 < slotAt ss n .whole
@@ -98,7 +104,9 @@ unfolding every?
 positive-of [] g n h = absurd h
 positive-of (s ∷ ss) g zero h =
     leb→le 1 (s .whole) (first-of (leb 1 (s .whole)) (leb (s .whole) 268435455 && leb (s .b) (s .whole))
-    (second-of (leb (s .team) 7) (couldGive? (s .b) (s .whole)) (⊎-elim (λ t. absurd (never (s .held) h t)) (λ t. t) (one-of (not (s .held)) (leb (s .team) 7 && couldGive? (s .b) (s .whole)) (first-of (goodSlot? s) (allGood? ss) g)))))
+    (second-of (leb (s .team) 7) (couldGive? (s .b) (s .whole))
+    (⊎-elim (λ t. absurd (never (s .held) h t)) (λ t. t) (one-of (not (s .held)) (leb (s .team) 7 && couldGive? (s .b) (s .whole))
+    (first-of (goodSlot? s) (allGood? ss) g)))))
 positive-of (s ∷ ss) g (suc n) h = positive-of ss (second-of (goodSlot? s) (allGood? ss) g) n h
 
 pub held-there : (ss : List Slot) (n : ℕ) → T (held? ss n) → n < length ss

@@ -67,7 +67,8 @@ module _ (ss : List Slot) (positive : (n : ℕ) → T (held? ss n) → 0 < slotA
       over h k l p b =
           let a : T (ahead? ss m (best .at)) =
           ⊎-elim (λ z. absurd (never (best .some) b z)) (λ z. z) (one-of (not (best .some)) (ahead? ss m (best .at)) (second-of (held? ss m) closer? c)) in
-          inr (⊎-elim (λ e. subst (λ (j : ℕ). T (ahead? ss m j)) (sym e) a) (λ z. ahead-trans ss positive m (best .at) k h (f .some b) p a z) (f .first b k l p))
+          inr (⊎-elim (λ e. subst (λ (j : ℕ). T (ahead? ss m j)) (sym e) a) (λ z. ahead-trans ss positive m (best .at) k h (f .some b) p a z)
+          (f .first b k l p))
 
   -- the first is still the one before
   old-first : T (not (held? ss m && closer?)) → FirstHeld ss (m + 1) best

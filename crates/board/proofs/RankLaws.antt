@@ -38,7 +38,8 @@ tally-most ss (suc n) = by (held? ss n) (tally-most ss n)
 tally-some : (ss : List Slot) (m n : ℕ) → m < n → T (held? ss m) → 0 < tally ss n
 unfolding tally
 tally-some ss m zero l h = absurd (omega arith)
-tally-some ss m (suc n) l h = by (held? ss n) (λ t. below m n (omega arith) (λ e. absurd (never (held? ss n) (subst (λ (k : ℕ). T (held? ss k)) e h) t)) (λ l′. tally-some ss m n l′ h))
+tally-some ss m (suc n) l h = by (held? ss n) (λ t. below m n (omega arith) (λ e. absurd (never (held? ss n) (subst (λ (k : ℕ). T (held? ss k)) e h) t))
+    (λ l′. tally-some ss m n l′ h))
   where
     by : (b : Bool) → (T (not b) → 0 < tally ss n) → 0 < cond b (suc (tally ss n)) (tally ss n)
     by true f = omega arith
@@ -57,11 +58,13 @@ tally-within xs ys f (suc n) = by (held? xs n) (held? ys n) (f n) (tally-within 
     by false false i l = l
 
 -- and in xs m is held besides
-tally-less : (xs ys : List Slot) (m n : ℕ) → m < n → T (held? xs m) → (T (held? ys m) → ⊥) → ((k : ℕ) → T (held? ys k) → T (held? xs k)) → tally ys n < tally xs n
+tally-less : (xs ys : List Slot) (m n : ℕ) → m < n → T (held? xs m) → (T (held? ys m) → ⊥) → ((k : ℕ) → T (held? ys k) → T (held? xs k)) →
+    tally ys n < tally xs n
 unfolding tally
 tally-less xs ys m zero l h g f = absurd (omega arith)
 tally-less xs ys m (suc n) l h g f =
-    below m n (omega arith) (λ e. here (held? xs n) (held? ys n) (subst (λ (k : ℕ). T (held? xs k)) e h) (λ t. g (subst (λ (k : ℕ). T (held? ys k)) (sym e) t)) (tally-within xs ys f n))
+    below m n (omega arith) (λ e. here (held? xs n) (held? ys n) (subst (λ (k : ℕ). T (held? xs k)) e h)
+    (λ t. g (subst (λ (k : ℕ). T (held? ys k)) (sym e) t)) (tally-within xs ys f n))
     (λ l′. there (held? xs n) (held? ys n) (f n) (tally-less xs ys m n l′ h g f))
   where
     there : (a b : Bool) → (T b → T a) → tally ys n < tally xs n → cond b (suc (tally ys n)) (tally ys n) < cond a (suc (tally xs n)) (tally xs n)
@@ -107,7 +110,8 @@ pub record Sofar (ss left : List Slot) (order : List ℕ) (count : ℕ) (found :
   pub zeros : (i : ℕ) → count ≤ i → getD order i 0 ≡ 0
 
 module _ (ss : List Slot) where
-  pub begun : (order : List ℕ) (found : Pick) → length ss ≡ 16 → length order ≡ 16 → ((i : ℕ) → getD order i 0 ≡ 0) → FirstHeld ss 16 found → Sofar ss ss order 0 found
+  pub begun : (order : List ℕ) (found : Pick) → length ss ≡ 16 → length order ≡ 16 → ((i : ℕ) → getD order i 0 ≡ 0) → FirstHeld ss 16 found →
+      Sofar ss ss order 0 found
   begun order found sixteen size zeros f = record {
     size = size;
     fits = omega (arith, tally-most ss 16);
@@ -122,7 +126,8 @@ module _ (ss : List Slot) where
   }
 
   -- one more is listed
-  module _ (left : List Slot) (order : List ℕ) (count : ℕ) (found : Pick) (less : count < 16) (yes : T (found .some)) (s : Sofar ss left order count found) where
+  module _ (left : List Slot) (order : List ℕ) (count : ℕ) (found : Pick) (less : count < 16) (yes : T (found .some))
+      (s : Sofar ss left order count found) where
     abbrev at : ℕ
     at = found .at
 
@@ -161,7 +166,8 @@ module _ (ss : List Slot) where
     -- the new one is ahead of what is left
     ahead : (n : ℕ) → T (held? left′ n) → T (ahead? ss at n)
     ahead n h =
-        ⊎-elim (λ e. absurd (apart n h e)) (λ a. subst (λ (x : Slot). T (before? x at (slotAt ss n) n)) (s .same at at-held) (subst (λ (y : Slot). T (before? (slotAt left at) at y n)) (s .same n (was n h)) a))
+        ⊎-elim (λ e. absurd (apart n h e)) (λ a. subst (λ (x : Slot). T (before? x at (slotAt ss n) n)) (s .same at at-held)
+        (subst (λ (y : Slot). T (before? (slotAt left at) at y n)) (s .same n (was n h)) a))
         (s .first .first yes n (subst (λ (k : ℕ). n < k) (s .sixteen) (held-there left n (was n h))) (was n h))
 
     pub one-listed : (next : Pick) → FirstHeld left′ 16 next → Sofar ss left′ order′ (count + 1) next
@@ -172,8 +178,10 @@ module _ (ss : List Slot) where
       same = λ n h. kept n (apart n h) ∙ s .same n (was n h);
       first = f;
       sorted = λ i j l m. below j count m
-          (λ e. subst (λ (k : ℕ). T (ahead? ss (getD order′ i 0) k)) (sym (ap (λ (k : ℕ). getD order′ k 0) e ∙ here)) (subst (λ (k : ℕ). T (ahead? ss k at)) (sym (before i (omega arith))) (s .behind at at-held i (omega arith))))
-          (λ l′. subst (λ (k : ℕ). T (ahead? ss (getD order′ i 0) k)) (sym (before j l′)) (subst (λ (k : ℕ). T (ahead? ss k (getD order j 0))) (sym (before i (omega arith))) (s .sorted i j l l′)));
+          (λ e. subst (λ (k : ℕ). T (ahead? ss (getD order′ i 0) k)) (sym (ap (λ (k : ℕ). getD order′ k 0) e ∙ here))
+          (subst (λ (k : ℕ). T (ahead? ss k at)) (sym (before i (omega arith))) (s .behind at at-held i (omega arith))))
+          (λ l′. subst (λ (k : ℕ). T (ahead? ss (getD order′ i 0) k)) (sym (before j l′))
+          (subst (λ (k : ℕ). T (ahead? ss k (getD order j 0))) (sym (before i (omega arith))) (s .sorted i j l l′)));
       held = each (λ k. T (held? ss k)) (s .held) (subst (λ (x : Slot). T (x .held)) (s .same at at-held) at-held);
       behind = λ n h. each (λ k. T (ahead? ss k n)) (s .behind n (was n h)) (ahead n h);
       all = λ n h. ⊎-elim (λ p. inl (p .0, (wider (p .0) (p .1 .0), before (p .0) (p .1 .0) ∙ p .1 .1))) (λ t. by n t) (s .all n h);
@@ -186,10 +194,12 @@ module _ (ss : List Slot) where
         by : (n : ℕ) → T (held? left n) → ((i : ℕ) × ((i < count + 1) × (getD order′ i 0 ≡ n))) ⊎ T (held? left′ n)
         by n t =
             ⊎-elim (λ q. inl (count, (omega arith, here ∙ sym (eqb→eq n at q))))
-            (λ q. inr (subst (λ (x : Slot). T (x .held)) (sym (kept n (λ e. never (eqb n at) (subst (λ (k : ℕ). T (eqb n k)) e (eqb-refl n)) q))) t)) (dec (eqb n at))
+            (λ q. inr (subst (λ (x : Slot). T (x .held)) (sym (kept n (λ e. never (eqb n at) (subst (λ (k : ℕ). T (eqb n k)) e (eqb-refl n)) q))) t))
+            (dec (eqb n at))
 
   -- none is left, or 16 are listed, and then none is left either
-  module _ (left : List Slot) (order : List ℕ) (count : ℕ) (found : Pick) (s : Sofar ss left order count found) (over : T (not (found .some)) ⊎ (16 ≤ count)) where
+  module _ (left : List Slot) (order : List ℕ) (count : ℕ) (found : Pick) (s : Sofar ss left order count found)
+      (over : T (not (found .some)) ⊎ (16 ≤ count)) where
     none : (n : ℕ) → T (held? left n) → ⊥
     none n h =
         let l : n < 16 = subst (λ (k : ℕ). n < k) (s .sixteen) (held-there left n h) in
@@ -210,13 +220,15 @@ module _ (ss : List Slot) where
           subst (λ (x : ℕ). T (ahead? ss x (getD (take count order) j 0))) (sym (taken i (omega arith)))
           (subst (λ (x : ℕ). T (ahead? ss (getD order i 0) x)) (sym (taken j m′)) (s .sorted i j l m′));
       held = λ i l. subst (λ (x : ℕ). T (held? ss x)) (sym (taken i (inside i l))) (s .held i (inside i l));
-      all = λ n h. ⊎-elim (λ p. (p .0, (subst (λ (k : ℕ). p .0 < k) (sym long) (p .1 .0), taken (p .0) (p .1 .0) ∙ p .1 .1))) (λ t. absurd (none n t)) (s .all n h);
+      all = λ n h. ⊎-elim (λ p. (p .0, (subst (λ (k : ℕ). p .0 < k) (sym long) (p .1 .0), taken (p .0) (p .1 .0) ∙ p .1 .1))) (λ t. absurd (none n t))
+          (s .all n h);
     }
 
     filled : _≡_ {A = Ranking} (record { number = 0; place = 0; count = count; order = order })
         (record { number = 0; place = 0; count = length (take count order); order = take count order ++ replicate (16 - length (take count order)) 0 })
     filled =
-        rw long (ap (λ (xs : List ℕ). record { number = 0; place = 0; count = count; order = xs }) (zeros-behind order count (16 - count) (omega (arith, s .size, s .fits)) (s .zeros)))
+        rw long (ap (λ (xs : List ℕ). record { number = 0; place = 0; count = count; order = xs })
+        (zeros-behind order count (16 - count) (omega (arith, s .size, s .fits)) (s .zeros)))
 
     pub orders : Orders ss (record { number = 0; place = 0; count = count; order = order })
     unfolding rankingOf

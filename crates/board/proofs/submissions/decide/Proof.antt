@@ -48,7 +48,8 @@ may c =
 returns : tie.Need-returns
 returns c =
     let a = c .before .before .before .before .before .args in
-    out-of-range (a .t1) (a .ledger) (a .request) (a .model .now) (a .table .now) _ (shown (c .before .before .in-range .ensures) (c .before .if1 .taken)) (c .declined .ensures)
+    out-of-range (a .t1) (a .ledger) (a .request) (a .model .now) (a .table .now) _ (shown (c .before .before .in-range .ensures) (c .before .if1 .taken))
+    (c .declined .ensures)
 
 returns-2 : tie.Need-returns-2
 returns-2 c =
@@ -79,8 +80,10 @@ returns-4 c =
     let j = c .before .before .before .before .judge in
     let said = says (j .result) (v .ensures) in
     judge-refuses (a .t1) (a .ledger) (a .request) (a .model .now) (a .table .now) (ranged (on e)) (unspent (two e)) (may e) (v .result)
-    (subst (Judged (a .model .now) (a .table .now)) (sym said) (j .ensures .0)) (subst (BoundsSchedulers (a .model .now)) (sym said) (j .ensures .1 .1)) _ (c .before .if4 .taken)
-    (subst (λ (l : Ledger). Declines (v .result .number) (v .result .place) l (c .declined4 .result)) (c .before .before .before .before .before .spent .ensures) (c .declined4 .ensures))
+    (subst (Judged (a .model .now) (a .table .now)) (sym said) (j .ensures .0))
+    (subst (BoundsSchedulers (a .model .now)) (sym said) (j .ensures .1 .1)) _ (c .before .if4 .taken)
+    (subst (λ (l : Ledger). Declines (v .result .number) (v .result .place) l (c .declined4 .result))
+    (c .before .before .before .before .before .spent .ensures) (c .declined4 .ensures))
 
 returns-5 : tie.Need-returns-5
 returns-5 c =
@@ -90,8 +93,10 @@ returns-5 c =
     let j = c .before .before .before .before .before .judge in
     let said = says (j .result) (v .ensures) in
     judge-accepts (a .t1) (a .ledger) (a .request) (a .model .now) (a .table .now) (ranged (on e)) (unspent (two e)) (may e) (v .result)
-    (subst (Judged (a .model .now) (a .table .now)) (sym said) (j .ensures .0)) (subst (BoundsSchedulers (a .model .now)) (sym said) (j .ensures .1 .1)) _ (c .before .before .if4 .left)
-    (subst (λ (l : Ledger). Grants (a .request) (v .result .certificate) l (c .granted .result)) (c .before .before .before .before .before .before .spent .ensures) (c .granted .ensures))
+    (subst (Judged (a .model .now) (a .table .now)) (sym said) (j .ensures .0))
+    (subst (BoundsSchedulers (a .model .now)) (sym said) (j .ensures .1 .1)) _ (c .before .before .if4 .left)
+    (subst (λ (l : Ledger). Grants (a .request) (v .result .certificate) l (c .granted .result))
+    (c .before .before .before .before .before .before .spent .ensures) (c .granted .ensures))
 
 pub decide-spec : {M : Type 1} → statement M
 decide-spec =

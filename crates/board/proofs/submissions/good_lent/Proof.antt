@@ -21,27 +21,12 @@ abbrev μ-loop : tie.MeasureT-loop
 loop-holds : tie.Need-loop-holds Inv-loop μ-loop
 loop-holds c = (omega arith, (simp length-map at (c .good .0 .1 .1 .1 .0 .1 .0 .1), refl))
 
-mul-s : tie.Need-mul-s Inv-loop μ-loop
-mul-s c = search needs
-
-element-copy-out-s : tie.Need-element-copy-out-s Inv-loop μ-loop
-element-copy-out-s c = search needs
-
-good-slot-requires : tie.Need-good-slot-requires Inv-loop μ-loop
-good-slot-requires c κs = search needs
-
-add-i : tie.Need-add-i Inv-loop μ-loop
-add-i c = search needs
-
-loop-less : tie.Need-loop-less Inv-loop μ-loop
-loop-less c = search needs
-
 loop-again : tie.Need-loop-again Inv-loop μ-loop
 loop-again c =
     let turn = c .before .before .before .loop in
     let slots = c .before .before .before .before .args .t1 .slots in
-    let said = c .good-slot .ensures in
-    (omega arith, (turn .inv .1 .0, ap (λ g. (turn .good && g) && allGood? (drop (turn .i + 1) slots)) said ∙ sym (good-on (λ s. goodSlot? s) (turn .good) slots (turn .i) vacant (omega (arith, turn .inv .1 .0))) ∙ turn .inv .1 .1))
+    let on = good-on (λ s. goodSlot? s) (turn .good) slots (turn .i) vacant (omega (arith, turn .inv .1 .0)) in
+    (omega arith, (turn .inv .1 .0, ap (λ g. (turn .good && g) && allGood? (drop (turn .i + 1) slots)) (c .good-slot .ensures) ∙ sym on ∙ turn .inv .1 .1))
 
 returns : tie.Need-returns Inv-loop μ-loop
 returns c =
@@ -55,10 +40,10 @@ good-lent-spec =
     Inv-loop
     μ-loop
     loop-holds
-    mul-s
-    element-copy-out-s
-    good-slot-requires
-    add-i
-    loop-less
+    (λ c. search needs)
+    (λ c. search needs)
+    (λ c κs. search needs)
+    (λ c. search needs)
+    (λ c. search needs)
     loop-again
     returns)
