@@ -1,6 +1,6 @@
 #!/usr/bin/env bash
 # The outside tests: the static library and the program, from C, from Rust and through the script for people, against an independent reading of
-# document 01. What is proved already is not proved again. `tests/run.sh --long N` does N times the comparisons.
+# documents 01 and 02. What is proved already is not proved again. `tests/run.sh --long N` does N times the comparisons.
 set -euo pipefail
 cd "$(dirname "$0")/.."
 mkdir -p target/log

@@ -26,8 +26,8 @@
  * finds as for any C program.
  *
  * STACK. The need is bounded and does not grow with the input: there is no recursion, and every frame has a fixed size. Measured on
- * x86-64: about 16 KiB for miss_chance_judge, 7 KiB for miss_chance_read_model, 1 KiB for the two questions about zones. A thread with
- * 256 KiB of stack is enough for each call.
+ * x86-64: about 16 KiB for miss_chance_judge, 17 KiB for miss_chance_submit, 7 KiB for miss_chance_read_model, 4 KiB for miss_chance_rank,
+ * 1 KiB for the two questions about zones. A thread with 256 KiB of stack is enough for each call.
  */
 #ifndef MISS_CHANCE_H
 #define MISS_CHANCE_H
@@ -125,7 +125,8 @@ bool miss_chance_zone_inside(uint32_t clocks, const uint32_t *first, size_t firs
 /* How many submissions a fresh board may hand to the judge, over all teams together. */
 #define MISS_CHANCE_ALLOWANCE 100
 
-/* A slot: vacant, or held by a team with the fraction that the judge certified for it. What a vacant one has in its other fields is not read. */
+/* A slot: vacant, or held by a team with the fraction that the judge certified for it. What a vacant one has in its other
+ * fields changes no answer and stays as it is; it must be initialised all the same, since slots are read whole. */
 struct miss_chance_slot {
     bool held;
     uint32_t team;  /* 0 to 7 */

@@ -1,4 +1,4 @@
-//! A board that nothing but the judge's fractions gets into.
+//! A board that a priority engine keeps: only submissions change it.
 
 use crate::{rank, submit, Ledger, Ranking, Reason, Refusal, Slot, Verdict, SLOTS};
 
@@ -53,8 +53,8 @@ impl Board {
     }
 
     /// A board as it was, from what [`slots`](Board::slots) and [`ledger`](Board::ledger) gave
-    /// then. Ranges are all that can be seen in them: that the judge certified the fractions rests
-    /// on where they were kept.
+    /// then. Ranges are all that can be seen in them: that the judge certified the fractions, and
+    /// that no more is left than was, rests on where they were kept.
     ///
     /// # Errors
     ///

@@ -40,8 +40,8 @@
 //! Every input has an answer. A word is a number, so words from a file, highest byte first, are put
 //! together first (`u32::from_be_bytes`). The calls keep no state but what the caller lends,
 //! allocate nothing and may run in several threads at once. A thread with 256 KiB of stack is
-//! enough for each: [`judge`] takes about 16 KiB, [`read_model`] 7 KiB, the two questions 1 KiB,
-//! whatever the input.
+//! enough for each: [`judge`] takes about 16 KiB, [`submit`] 17 KiB, [`read_model`] 7 KiB, [`rank`]
+//! 4 KiB, the two questions 1 KiB, whatever the input.
 //!
 //! # The library
 //!

@@ -5,7 +5,7 @@ pub const SLOTS: usize = 16;
 
 /// A slot of a board: vacant, or held by a team with the fraction that the judge certified for it.
 ///
-/// Only a held slot is read. What a vacant one has in its other fields means nothing, but `==`
+/// What a vacant one has in its other fields changes no answer and stays as it is, but `==`
 /// compares it all the same.
 #[derive(Clone, Copy, Debug, PartialEq, Eq)]
 #[repr(C)]
