@@ -1,5 +1,5 @@
 //! Boards for the figures. Each side keeps one in its own slots, prepared once, as an engine does, so
-//! that what is measured is the side's own call, without the conversions of `sides`.
+//! that no slot is converted at each call; answers are converted as in `sides`.
 
 use std::hint::black_box;
 

@@ -46,7 +46,7 @@ module _ (lent : Lent) (l : Ledger) (q : Request) (model table : List ℕ) where
   abbrev s : Submission
   s = submission q model table
 
-  -- what the request's own part of 54 asks
+  -- what 54 asks besides the slots
   abbrev own : Bool
   own = goodLedger? l && (leb (q .team) 7 && ltb (q .slot) 16)
 

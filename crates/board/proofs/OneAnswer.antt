@@ -68,14 +68,14 @@ module _ (ss : List Slot) (positive : (n : ℕ) → T (held? ss n) → 0 < slotA
       later n a (suc i, (l, e)) = (i, (omega arith, e))
 
   -- an empty list has no place
-  nowhere : {n : ℕ} → (i : ℕ) × ((i < 0) × (getD [] i 0 ≡ n)) → ⊥
-  nowhere (i, (l, e)) = omega arith
+  no-place : {n : ℕ} → (i : ℕ) × ((i < 0) × (getD [] i 0 ≡ n)) → ⊥
+  no-place (i, (l, e)) = omega arith
 
   -- two lists of the same slots are the same: the first of either is the first of the other
   lists-one : (P : ℕ → Type 0) → ((n : ℕ) → P n → T (held? ss n)) → (xs ys : List ℕ) → Lists ss P xs → Lists ss P ys → xs ≡ ys
   lists-one P held [] [] h k = refl
-  lists-one P held [] (y ∷ ys) h k = absurd (nowhere (h .all y (k .each 0 (omega arith))))
-  lists-one P held (x ∷ xs) [] h k = absurd (nowhere (k .all x (h .each 0 (omega arith))))
+  lists-one P held [] (y ∷ ys) h k = absurd (no-place (h .all y (k .each 0 (omega arith))))
+  lists-one P held (x ∷ xs) [] h k = absurd (no-place (k .all x (h .each 0 (omega arith))))
   lists-one P held (x ∷ xs) (y ∷ ys) h k =
       let e : x ≡ y = first (h .all y (k .each 0 (omega arith))) (k .all x (h .each 0 (omega arith))) in
       let rest : xs ≡ ys = lists-one (λ n. P n × T (ahead? ss x n)) (λ n p. held n (p .0)) xs ys (behind P x xs h)

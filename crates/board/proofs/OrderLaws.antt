@@ -39,28 +39,28 @@ module _ (b₁ v₁ b₂ v₂ b₃ v₃ : ℕ) where
       (omega (arith, turned b₁ v₃ v₂, mul-le-mul-right v₃ h, turned b₂ v₁ v₃, mul-lt-mul-of-pos-right k pos, turned b₃ v₂ v₁))
 
 -- what the test says, of two products and two numbers
-abbrev Says : (p q m n : ℕ) → Type 0
-Says p q m n = (p < q) ⊎ ((p ≡ q) × (m < n))
+abbrev Before : (p q m n : ℕ) → Type 0
+Before p q m n = (p < q) ⊎ ((p ≡ q) × (m < n))
 
 abbrev said? : (p q m n : ℕ) → Bool
 said? p q m n = ltb p q || (eqb p q && ltb m n)
 
-read : (p q m n : ℕ) → T (said? p q m n) → Says p q m n
+read : (p q m n : ℕ) → T (said? p q m n) → Before p q m n
 read p q m n h = ⊎-elim (λ t. inl (ltb→lt p q t)) (λ t. inr (eqb→eq p q (first-of (eqb p q) (ltb m n) t), ltb→lt m n (second-of (eqb p q) (ltb m n) t)))
     (one-of (ltb p q) (eqb p q && ltb m n) h)
 
-write : (p q m n : ℕ) → Says p q m n → T (said? p q m n)
+write : (p q m n : ℕ) → Before p q m n → T (said? p q m n)
 write p q m n (inl l) = or-left (ltb p q) (eqb p q && ltb m n) (lt→ltb p q l)
 write p q m n (inr (e, l)) = or-right (ltb p q) (eqb p q && ltb m n) (and (eqb p q) (ltb m n) (subst (λ (k : ℕ). T (eqb p k)) e (eqb-refl p)) (lt→ltb m n l))
 
 -- one of two slots comes before the other
-either : (p q m n : ℕ) → (m ≡ n → ⊥) → (Says p q m n → ⊥) → Says q p n m
+either : (p q m n : ℕ) → (m ≡ n → ⊥) → (Before p q m n → ⊥) → Before q p n m
 either p q m n d h = ⊎-elim (λ t. inl (ltb→lt q p t)) (λ t. over (nltb→le q p t)) (dec (ltb q p))
   where
-    over : p ≤ q → Says q p n m
+    over : p ≤ q → Before q p n m
     over le = ⊎-elim (λ t. absurd (h (inl (ltb→lt p q t)))) (λ t. same (le-antisymm le (nltb→le p q t))) (dec (ltb p q))
       where
-        same : p ≡ q → Says q p n m
+        same : p ≡ q → Before q p n m
         same e = ⊎-elim (λ t. absurd (h (inr (e, ltb→lt m n t)))) (λ t. inr (sym e, less (nltb→le m n t))) (dec (ltb m n))
           where
             less : n ≤ m → n < m
@@ -75,8 +75,8 @@ module _ (ss : List Slot) (positive : (n : ℕ) → T (held? ss n) → 0 < slotA
       write (at a .b * at c .whole) (at c .b * at a .whole) a c
       (by (read (at a .b * at b .whole) (at b .b * at a .whole) a b x) (read (at b .b * at c .whole) (at c .b * at b .whole) b c y))
     where
-      by : Says (at a .b * at b .whole) (at b .b * at a .whole) a b → Says (at b .b * at c .whole) (at c .b * at b .whole) b c →
-          Says (at a .b * at c .whole) (at c .b * at a .whole) a c
+      by : Before (at a .b * at b .whole) (at b .b * at a .whole) a b → Before (at b .b * at c .whole) (at c .b * at b .whole) b c →
+          Before (at a .b * at c .whole) (at c .b * at a .whole) a c
       by (inl p) (inl q) = inl (cross-lt-le (at a .b) (at a .whole) (at b .b) (at b .whole) (at c .b) (at c .whole) (positive c hc) p (omega arith))
       by (inl p) (inr q) = inl (cross-lt-le (at a .b) (at a .whole) (at b .b) (at b .whole) (at c .b) (at c .whole) (positive c hc) p (omega (arith, q .0)))
       by (inr p) (inl q) = inl (cross-le-lt (at a .b) (at a .whole) (at b .b) (at b .whole) (at c .b) (at c .whole) (positive a ha) (omega (arith, p .0)) q)
@@ -98,7 +98,7 @@ pub ahead-self : (ss : List Slot) (m : ℕ) → T (ahead? ss m m) → ⊥
 ahead-self ss m h = ⊎-elim (λ (l : slotAt ss m .b * slotAt ss m .whole < slotAt ss m .b * slotAt ss m .whole). omega arith)
     (λ e. let l : m < m = e .1 in omega arith) (read (slotAt ss m .b * slotAt ss m .whole) (slotAt ss m .b * slotAt ss m .whole) m m h)
 
--- a held slot among good ones has a V of at least 1, and is one of them
+-- a held slot among good ones has a V of at least 1
 pub positive-of : (ss : List Slot) → T (allGood? ss) → (n : ℕ) → T (held? ss n) → 0 < slotAt ss n .whole
 unfolding every?
 positive-of [] g n h = absurd h
@@ -109,6 +109,7 @@ positive-of (s ∷ ss) g zero h =
     (first-of (goodSlot? s) (allGood? ss) g)))))
 positive-of (s ∷ ss) g (suc n) h = positive-of ss (second-of (goodSlot? s) (allGood? ss) g) n h
 
+-- a held slot is one of the list
 pub held-there : (ss : List Slot) (n : ℕ) → T (held? ss n) → n < length ss
 held-there [] n h = absurd h
 held-there (s ∷ ss) zero h = omega arith

@@ -3,7 +3,7 @@ use mathlib.Core.Path.{_≡_, refl, sym, ap, _∙_}
 use mathlib.Core.Logic.{_⊎_, inl, inr}
 use mathlib.Core.Bool.{Bool, true, false, not, cond, _&&_, _||_}
 use lib.Dec.{T}
-use Rattle.zone.proofs.Bools.{true-false, false-true}
+use Rattle.zone.proofs.Bools.{true-false, false-true, both}
 
 pub dec : (b : Bool) → T b ⊎ T (not b)
 dec true = inl tt
@@ -27,12 +27,10 @@ shown e h = ap not (sym e) ∙ h
 
 -- of two tests
 pub first-of : (a b : Bool) → T (a && b) → T a
-first-of true b h = tt
-first-of false b h = absurd h
+first-of a b h = both a b h .0
 
 pub second-of : (a b : Bool) → T (a && b) → T b
-second-of true b h = h
-second-of false b h = absurd h
+second-of a b h = both a b h .1
 
 pub one-of : (a b : Bool) → T (a || b) → T a ⊎ T b
 one-of true b h = inl tt

@@ -49,12 +49,12 @@ Shows (some g) x = x ≡ holding (g .made .team) (g .certificate .b) (g .certifi
 pub record ShowsLast (ts : List Turn) (B : Board) : Type 0 where
   pub shows : (n : ℕ) → n < 16 → Shows (lastOf n none ts) (slotAt (B .slots) n)
 
--- what slot x, numbered n, shows bounds every scheduler of the model that was submitted for it last and accepted
+-- the fraction in slot x, numbered n, bounds every scheduler of the model of the last accepted submission for it
 pub record Bounded (ts : List Turn) (n : ℕ) (x : Slot) : Type 0 where
   pub grant : Grant
   pub last : lastOf n none ts ≡ some grant
   pub bounds : BoundsEvery (modelOf (grant .made .model)) (x .b) (x .whole)
 
--- so it is of every held slot
+-- this holds of every held slot
 pub record BoundsHeld (ts : List Turn) (B : Board) : Type 0 where
   pub held : (n : ℕ) → n < 16 → T (slotAt (B .slots) n .held) → Bounded ts n (slotAt (B .slots) n)

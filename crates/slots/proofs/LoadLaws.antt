@@ -60,7 +60,7 @@ loaded-loads ys i h over = record {
     in-range : length ys ≡ 16 → (k : ℕ) → k < length (loaded ys i .slots) → k < i
     in-range e k l = let l′ : k < 16 = subst (λ (n : ℕ). k < n) (long ys i) l in ⊎-elim (λ w. omega arith) (λ w. omega arith) over
 
--- the loop's test
+-- the loop's test. `both` is `zone`'s too, on which `slots` does not build
 pub both : (a b : Bool) → T (a && b) → T a × T b
 both true true h = (tt, tt)
 both true false h = absurd h

@@ -12,13 +12,6 @@ pub struct Board {
     pub left: u32,
 }
 
-const VACANT: Slot = Slot {
-    held: false,
-    team: 0,
-    b: 0,
-    whole: 0,
-};
-
 /// More slots than any case has a use for.
 const MOST: usize = 1_000;
 
@@ -50,7 +43,7 @@ pub fn become_of(before: &Board, text: &str) -> Result<Board, String> {
 impl Board {
     pub fn fresh() -> Board {
         Board {
-            slots: vec![VACANT; 16],
+            slots: vec![Slot::VACANT; 16],
             left: 100,
         }
     }
@@ -76,7 +69,7 @@ impl Board {
             [count, "slots"] => {
                 let count = number(count).ok().filter(|count| *count <= MOST);
                 let count = count.ok_or_else(|| format!("'{item}': 0 to {MOST} will do"))?;
-                self.slots.resize(count, VACANT);
+                self.slots.resize(count, Slot::VACANT);
             }
             _ => return Err(format!("'{item}' says nothing of a board")),
         }
@@ -101,7 +94,7 @@ impl Board {
             items.push(format!("{} slots", self.slots.len()));
         }
         for (number, now) in self.slots.iter().enumerate() {
-            if *now != before.slots.get(number).copied().unwrap_or(VACANT) {
+            if *now != before.slots.get(number).copied().unwrap_or(Slot::VACANT) {
                 items.push(format!("{number} = {}", said(now)));
             }
         }
@@ -134,7 +127,7 @@ fn or(items: String, none: &str) -> String {
 fn slot(text: &str) -> Result<Slot, String> {
     let parts: Vec<&str> = text.split_whitespace().collect();
     let (held, fields) = match parts[..] {
-        ["vacant"] => return Ok(VACANT),
+        ["vacant"] => return Ok(Slot::VACANT),
         ["vacant", ref fields @ ..] => (false, fields),
         ref fields => (true, fields),
     };
@@ -158,7 +151,7 @@ fn said(slot: &Slot) -> String {
         b,
         whole,
     } = slot;
-    match (*slot == VACANT, held) {
+    match (*slot == Slot::VACANT, held) {
         (true, _) => "vacant".to_string(),
         (_, true) => format!("team {team} {b}/{whole}"),
         (_, false) => format!("vacant team {team} {b}/{whole}"),
@@ -182,7 +175,7 @@ mod tests {
     fn boards_by_what_is_other_than_on_a_fresh_one() {
         assert_eq!(handed_in("fresh"), Ok(Board::fresh()));
         let few = handed_in("2 slots, 0 left").expect("a board");
-        assert_eq!((few.slots, few.left), (vec![VACANT; 2], 0));
+        assert_eq!((few.slots, few.left), (vec![Slot::VACANT; 2], 0));
         let text =
             "17 slots, 0-15 = team 1 1/2, 3 = team 8 5/0, 4-5 = vacant, 5 = vacant team 9 1/1";
         let board = handed_in(text).expect("a board");
@@ -192,8 +185,8 @@ mod tests {
             held: false,
             ..held(9, 1, 1)
         };
-        assert_eq!(board.slots[4..6], [VACANT, garbage]);
-        assert_eq!(board.slots[15..], [held(1, 1, 2), VACANT]);
+        assert_eq!(board.slots[4..6], [Slot::VACANT, garbage]);
+        assert_eq!(board.slots[15..], [held(1, 1, 2), Slot::VACANT]);
     }
 
     #[test]

@@ -51,6 +51,13 @@ impl<'a> Law<'a> {
         Ok(())
     }
 
+    /// From a fresh board the rank is never refused.
+    pub fn ranks(&self, answer: &Result<Vec<usize>, Refusal>) -> Result<(), Fault> {
+        demand(answer.is_ok() || !self.start.is_fresh(), || {
+            format!("from a fresh board a rank is due, not {answer:?}")
+        })
+    }
+
     /// How many submissions got as far as the judge.
     fn judged(&self) -> usize {
         let judged = |(_, answer): &&(_, Answer)| from_judge(answer);

@@ -91,6 +91,7 @@ fn run(asks: &mut dyn Asks, history: &History) -> Result<Board, Fault> {
         lawful.map_err(|fault| Fault(format!("{fault}\n{board:?}\n{submission}")))?;
         let order = asks.rank(&after.slots)?;
         law::rank(&after.slots, &order)?;
+        law.ranks(&order)?;
         board = after;
     }
     law.shown(&board)?;

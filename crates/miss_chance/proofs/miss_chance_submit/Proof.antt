@@ -1,9 +1,7 @@
 -- `miss_chance_submit` meets its contract: a walk of its MIR, by hand. The slice is lent as a `&` to `load` for a lifetime that is made for the call, and
--- comes back (`Shared.antt` of `slots`);
--- `decide` gets what was read, and copies of what the two lists of words own; then the slice goes to `put` for good, so that what is had of it at exit is what
--- `put` says of its last list.
--- All that the proof knows of the three is that each meets its contract; what these come to together is `submits` (`DecisionLaws.antt` of `board`).
--- Assumes nothing.
+-- comes back (`Shared.antt` of `slots`); `decide` gets what was read, and copies of what the two lists of words own; then the slice is given to `put` and
+-- does not come back, so that what is had of it at exit is what `put` says of its last list. All that the proof knows of the three is that each meets its
+-- contract; what these come to together is `submits` (`DecisionLaws.antt` of `board`). Assumes nothing.
 use mathlib.Core.Path.{_≡_, refl, sym, ap, subst}
 use Prim.Native.Nat.{ℕ, _<_, _^_}
 use mathlib.Core.List.{[], _∷_, List}
@@ -311,9 +309,9 @@ module _ {M : Type 1} (𝓤 : URA M) (H : Heap 𝓤) (A : Atoms 𝓤) (W : Given
           split ! $ move ! (1 ∷ []) $ use1 W (some (λ (zs : List Slot × (Unit {0} × (Unit {0} × Unit {0}))). ‵ (lasts put.ended (κ₀, tt)
           (to-it d gd) zs) ⊛ raw (fact 𝓤 (zs .0 ≡ set ys (d .at) (d .slot))))) (id⊢ 𝓤 _) $ pick ! (λ zs.
           split ! $ move ! (1 ∷ []) $ heard ! (zs .0 ≡ set ys (d .at) (d .slot)) (λ e. fsplit ! $ fsplit ! $ move ! (1 ∷ []) $ feqL ! (λ long.
-          -- [the last list; the others' lasts; the token and the result; the tokens; what the words own; _13; …]
+          -- [the last list; the others' lasts; the token and the result; the tokens; what the words own; _12; …]
           move ! (2 ∷ []) $ split ! $ move ! (1 ∷ []) $ feqL ! (λ is.
-          -- [the token; the last list; the others' lasts; the tokens; what the words own, twice; _13; …]
+          -- [the token; the last list; the others' lasts; the tokens; what the words own, twice; _12; …]
           split ! $ move ! (1 ∷ 3 ∷ []) $ drop ! $ drop ! $
           land ! (from ! (stop !)) (init ! 9 refl (subst (λ (z : Val). T (hasTy tyUnit z) × WT z) (sym (ap only is)) (tt, tt))) $
           assigns ! (of-opd ! (reads ! (from ! (fld ! refl (stop !))) (look-in ! 15 (sub ! 0 refl (whole !))))) (from ! (stop !))
@@ -333,10 +331,10 @@ module _ {M : Type 1} (𝓤 : URA M) (H : Heap 𝓤) (A : Atoms 𝓤) (W : Given
       decides r gr read =
           move ! (2 ∷ []) $ use1 W (‵ Own₁ ⊛ ‵ Own₁) (shr-slice-copy 𝓤 H A W (named 1) κ₁ u32 .twice m (mv ∷ [])) $ split ! $
           move ! (5 ∷ []) $ use1 W (‵ Own₂ ⊛ ‵ Own₂) (shr-slice-copy 𝓤 H A W (named 2) κ₂ u32 .twice k (kv ∷ [])) $ split ! $
-          -- [Own₂; Own₂; Own₁; Own₁; Own₀; the tokens 0, 1 and 2; _13; …]
+          -- [Own₂; Own₂; Own₁; Own₁; Own₀; the tokens 0, 1 and 2; _12; …]
           move ! (2 ∷ 0 ∷ []) $ join ! $ move ! (6 ∷ 0 ∷ []) $ join ! $ move ! (5 ∷ 0 ∷ []) $ join ! $
           use1 W (raw (Decide 𝓤 H A mem run .pre (to-decide r))) (goes-decide r gr) $
-          -- [what it asks; Own₂; Own₁; Own₀; the token 0; _13; …]
+          -- [what it asks; Own₂; Own₁; Own₀; the token 0; _12; …]
           calls-at ! fm (Decide 𝓤 H A mem run) known-decide (to-decide r)
           (and-then ! (reads ! (from ! (stop !)) (look ! 17 refl))
           (and-then ! (reads ! (from ! (stop !)) (look ! 25 refl))
@@ -365,11 +363,11 @@ module _ {M : Type 1} (𝓤 : URA M) (H : Heap 𝓤) (A : Atoms 𝓤) (W : Given
         -- what the parameters own is taken apart, and the tokens
         move ! (27 ∷ []) $ fsplit ! $ move ! (1 ∷ []) $ fsplit ! $ drop ! $ fsplit ! $ drop ! $ fsplit ! $ move ! (1 ∷ []) $ fsplit ! $ move ! (1 ∷ []) $
         drop ! $
-        -- [Own₂; Own₁; Own₀; _13; …; the tokens]
+        -- [Own₂; Own₁; Own₀; _12; …; the tokens]
         move ! (29 ∷ []) $ split ! $ move ! (1 ∷ []) $ split ! $ move ! (1 ∷ []) $ split ! $ move ! (1 ∷ []) $ drop ! $
-        -- [the tokens 2, 1 and 0; Own₂; Own₁; Own₀; _13; …]
+        -- [the tokens 2, 1 and 0; Own₂; Own₁; Own₀; _12; …]
         move ! (5 ∷ 2 ∷ 4 ∷ 1 ∷ 3 ∷ 0 ∷ []) $
-        -- [Own₀; the token 0; Own₁; the token 1; Own₂; the token 2; _12; …; _11; …; _11; …; _10; …; _9; …; _8; …; _7; …; _6; …; _5; …; _4; …; _3; …; _2; …;
+        -- [Own₀; the token 0; Own₁; the token 1; Own₂; the token 2; _12; …; _11; …; _10; …; _9; …; _8; …; _7; …; _6; …; _5; …; _4; …; _3; …; _2; …;
         -- _1; …; room for _0; …]
         assigns ! (addr ! (from ! (fld ! refl (hop ! (look-in ! 28 (sub ! 0 refl (whole !))) (stop !))))) (from ! (stop !)) (init ! 14 refl (tt, tt)) $
         assigns ! (agg ! (and-then ! (reads ! (from ! (stop !)) (look ! 14 refl))
@@ -381,7 +379,7 @@ module _ {M : Type 1} (𝓤 : URA M) (H : Heap 𝓤) (A : Atoms 𝓤) (W : Given
         (sv ∷ [])) ⊛ ‵ (LentShared T.the-row κ₀ (ν ∷ []) q₀ γ b o ys)))) (lends-shared T.the-row κ₀ (ν ∷ []) q₀ γ b o ys 𝓤 H A W (named 0) (named 0)) $
         await ! tt $ pick ! (λ δ. split ! $
         move ! (2 ∷ 0 ∷ []) $ use2 W (raw (Load 𝓤 H A mem run .pre (to-load ν δ))) (goes-load ν δ) $
-        -- [what it asks; what is kept; Own₁; the token 1; Own₂; the token 2; _13; …]
+        -- [what it asks; what is kept; Own₁; the token 1; Own₂; the token 2; _12; …]
         calls-at ! fm (Load 𝓤 H A mem run) known-load (to-load ν δ) (and-then ! (reads ! (from ! (stop !)) (look ! 12 refl)) (no-more !)) (λ w.
         use1 W (later (some (λ (r : Lent). ((‵ (flft (ν ∷ []) fullShare) ⊛ ‵ ftrue) ⊛ ‵ (L.the-row .own r (w
         ∷ []))) ⊛ raw (ensured 𝓤 H A load.ended (load.clauses 𝓤 H A mem run) (ν ∷ [], tt) (x δ, tt) tt r)))) (id⊢ 𝓤 _) $ await ! tt $ pick ! (λ r.

@@ -1,8 +1,6 @@
 -- `slots::load` meets its contract: a walk of its MIR, by hand. The loop's invariant is that the local `lent` holds `loaded` of the turns made
--- (`LoadLaws.antt`); in a turn
--- the slice is looked into, the element is taken out of the row, read and put back, and `with` is called. All that it knows of `start` and of `with` is that
--- each meets its contract.
--- Assumes nothing.
+-- (`LoadLaws.antt`); in a turn the slice is looked into, the element is taken out of the row, read and put back, and `with` is called. All that it knows
+-- of `start` and of `with` is that each meets its contract. Assumes nothing.
 use mathlib.Core.Path.{_≡_, refl, sym, ap, subst, _∙_}
 use mathlib.Core.WellFounded.{WellFounded, InvImage·wf}
 use Prim.Native.Nat.{ℕ, _<_, _≤_, _+_, _-_, _^_}
