@@ -38,6 +38,7 @@ use denote.Exit.{yes}
 use Rattle.slots.specs.declared.Slot.{Slot}
 use Rattle.slots.specs.declared.Lent.{Lent}
 use Rattle.slots.specs.Loading.{Loads}
+use Rattle.slots.proofs.Values.{lentVal}
 use Rattle.slots.proofs.Slot as T
 use Rattle.slots.proofs.Lent as L
 use Rattle.slots.proofs.Lent.Laws as L′
@@ -62,10 +63,7 @@ use Rattle.miss_chance.proofs.miss_chance_rank.Code as code
 abbrev stayed : Stays (rank.ended .signature .params) (rank.ended .kept)
 stayed = (stay-none-slice (0 ∷ []) tt (plain (λ _. T.the-row)) yes, tt)
 
--- machine values
-abbrev lentVal : Lent → Val
-lentVal r = LL.val L.the-type L′.the-laws r
-
+-- its machine value
 abbrev rankingVal : Ranking → Val
 rankingVal r = LL.val K.the-type K′.the-laws r
 

@@ -49,6 +49,7 @@ use Rattle.slots.specs.declared.Slot.{Slot}
 use Rattle.slots.specs.declared.Lent.{Lent}
 use Rattle.slots.specs.Loading.{Loads}
 use Rattle.slots.proofs.Shared.{LentShared, lends-shared, shared-back}
+use Rattle.slots.proofs.Values.{slotVal, lentVal}
 use Rattle.slots.proofs.Slot as T
 use Rattle.slots.proofs.Slot.Laws as T′
 use Rattle.slots.proofs.Lent as L
@@ -104,12 +105,6 @@ stayed = (
 )
 
 -- machine values
-abbrev slotVal : Slot → Val
-slotVal s = LL.val T.the-type T′.the-laws s
-
-abbrev lentVal : Lent → Val
-lentVal r = LL.val L.the-type L′.the-laws r
-
 abbrev ledgerVal : Ledger → Val
 ledgerVal l = LL.val G.the-type G′.the-laws l
 

@@ -52,6 +52,7 @@ use Rattle.slots.specs.declared.Lent.{Lent}
 use Rattle.slots.specs.Slots.{vacant}
 use Rattle.slots.specs.Loading.{started, withSlot, Loads}
 use Rattle.slots.proofs.LoadLaws.{loaded, loaded-none, loaded-more, loaded-loads, both, not-both}
+use Rattle.slots.proofs.Values.{slotVal, lentVal}
 use Rattle.slots.proofs.Slot as T
 use Rattle.slots.proofs.Slot.Laws as T′
 use Rattle.slots.proofs.Lent as L
@@ -85,13 +86,6 @@ rest (switch c arms) = skip
 rest (exit n) = skip
 rest return = skip
 rest (call f xs d) = skip
-
--- a slot's machine value, and that of what is lent
-abbrev slotVal : Slot → Val
-slotVal s = LL.val T.the-type T′.the-laws s
-
-abbrev lentVal : Lent → Val
-lentVal l = LL.val L.the-type L′.the-laws l
 
 -- the result of a call is a value of its type, by what it is
 typed : (r : Lent) (w : Val) {m : Lent} → r ≡ m → Is L.the-row r (w ∷ []) → Is L.the-row m (lentVal m ∷ [])
