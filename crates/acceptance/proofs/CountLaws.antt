@@ -1,6 +1,6 @@
 -- What a wrong definition of the weighted count or of the certified fraction would break: a count is at most D to the power n, the certified
--- fraction at most 1, the count for no steps 1 at a target and 0 elsewhere; what document 01's timeline comes to; and what a scheduler sees.
--- Assumes nothing.
+-- fraction at most 1, the count for no steps 1 at a target and 0 elsewhere; what document 01's timeline comes to, also where edges land outside; and
+-- what a scheduler sees. Assumes nothing.
 use Prim.Native.Nat.{ℕ, zero, suc, _+_, _*_, _^_, _≤_, zero-le}
 use mathlib.Core.Path.{_≡_, refl}
 use mathlib.Core.Bool.{Bool, true, false, cond, _&&_}
@@ -19,8 +19,9 @@ use Rattle.model.specs.States.{State, locationAt, IsStart}
 use Rattle.model.proofs.ZoneLaws.{All, more}
 use Rattle.model.proofs.WellFormed.{weigh, WellFormed}
 use Rattle.table.specs.Table.{Table}
-use Rattle.acceptance.specs.Choices.{later, landing, invariant?, throughout?, land?, allowed?}
-use Rattle.acceptance.specs.Schedulers.{stop, choose, Scheduler, perStep, edgesCount, choiceCount, moveCount, missed?, weightedCount}
+use Rattle.acceptance.specs.Choices.{later, landing, invariant?, throughout?, allowed?}
+use Rattle.acceptance.specs.Schedulers.{stop, choose, Scheduler, perStep, edgesCount, choiceCount, moveCount}
+use Rattle.acceptance.specs.Schedulers.{atTarget?, landingCount, weightedCount}
 use Rattle.acceptance.specs.Acceptance.{Accepted, certified}
 use Rattle.acceptance.proofs.SchedulerLaws.{by-step, some-one, none-some}
 
@@ -40,13 +41,18 @@ edges-most rest u most h (e ∷ es) =
 
 pub count-most : (M : Model) → WellFormed M → (k : ℕ) (σ : Scheduler) (n : ℕ) (before : List State) (s : State) →
     weightedCount M k σ n before s ≤ M .denominator ^ n
-unfolding perStep weightedCount
-count-most M formed k σ zero before s = by-test (λ (c : ℕ). c ≤ M .denominator ^ zero) (missed? M k s) _ _ (λ y. le-refl _) (λ y. zero-le)
+unfolding perStep landingCount weightedCount
+count-most M formed k σ zero before s = by-test (λ (c : ℕ). c ≤ M .denominator ^ zero) (atTarget? M s) _ _ (λ y. le-refl _) (λ y. zero-le)
 count-most M formed k σ (suc n) before s =
     by-step M k σ n before s (λ c. c ≤ M .denominator ^ suc n) (λ y. le-refl _) zero-le
-    (λ y history t a A e z. chosen (weightedCount M k σ n history) (count-most M formed k σ n history) (later s t) A
+    (λ y history t a A e z. chosen _ (landed (weightedCount M k σ n history) (count-most M formed k σ n history)) (later s t) A
     (all-there (locationAt M (s .location) .actions) a A (formed .actions (s .location)) e .weights))
   where
+    -- outside as well
+    landed : (rest : State → ℕ) → ((next : State) → rest next ≤ M .denominator ^ n) → (next : State) →
+        landingCount M k (M .denominator ^ n) rest next ≤ M .denominator ^ n
+    landed rest all next = by-test (λ (c : ℕ). c ≤ M .denominator ^ n) (invariant? M k next) _ _ (λ y. all next) (λ y. le-refl _)
+
     chosen : (rest : State → ℕ) → ((next : State) → rest next ≤ M .denominator ^ n) → (u : State) (A : Action) →
         weigh (A .edges) ≡ M .denominator → edgesCount rest u (A .edges) ≤ M .denominator ^ suc n
     chosen rest all u A w = le-trans (edges-most rest u (M .denominator ^ n) all (A .edges)) (le-of-eq (rw (w, pow-succ')))
@@ -61,12 +67,12 @@ certified-most M W ok = ok .nodes (W .start) (ok .start .exists) .value
 
 pub count-zero-target : (M : Model) (k : ℕ) (σ : Scheduler) (before : List State) (s : State) →
     locationAt M (s .location) .target ≡ true → weightedCount M k σ 0 before s ≡ 1
-unfolding missed? weightedCount
+unfolding atTarget? weightedCount
 count-zero-target M k σ before s e = rw e (pow-zero (perStep M))
 
 pub count-zero-elsewhere : (M : Model) (k : ℕ) (σ : Scheduler) (before : List State) (s : State) →
     locationAt M (s .location) .target ≡ false → weightedCount M k σ 0 before s ≡ 0
-unfolding missed? weightedCount
+unfolding atTarget? weightedCount
 count-zero-elsewhere M k σ before s e = rw e
 
 -- ---- document 01's timeline at scale 3: from the start state, a scheduler that waits two units attains 1 of 10 in a step and 10 of 100 in two;
@@ -99,14 +105,44 @@ pub attained :
     (attains timeline 10 1 ≡ 0) × (attains otherTimeline 6 1 ≡ 9)
 unfolding
     among kindOf boundOf partsWith partsOf modelOf locationAt read holds? in? delayed masked? reset
-    later landing invariant? throughout? land? allowed? perStep edgesCount choiceCount moveCount missed? weightedCount
+    later landing invariant? throughout? allowed? perStep edgesCount choiceCount moveCount atTarget? landingCount weightedCount
 attained = (refl, refl, refl, refl, refl, refl)
+
+-- ---- document 02, card 4: the timeline with a location 1 that may hold for two units only. After two units the edge of weight 9 lands inside and
+-- that of weight 1 at the target; later in the same invariant the first lands outside, and both weights count; the guard and the invariant of
+-- location 0 still limit the choice
+
+abbrev pub closing : List ℕ
+closing =
+    0x1110000A ∷ 0x20000000 ∷ 0x51001003 ∷ 0x30000000 ∷ 0x50100FFE ∷ 0x40010009 ∷ 0x40020001 ∷ 0x20000000 ∷ 0x51001002 ∷ 0x20000001 ∷
+    0x60000000 ∷ 0x51001000 ∷ []
+
+-- the target may hold for two units only, and the other location, at the end of the edge of weight 1, for ever
+abbrev pub closingTarget : List ℕ
+closingTarget = set (set closing 7 0x20000001) 9 0x20000000
+
+-- one edge lands inside and one outside in one choice: location 1 has no end, and location 2, no target, may hold for two units only
+abbrev pub closingOther : List ℕ
+closingOther =
+    0x1110000A ∷ 0x20000000 ∷ 0x51001003 ∷ 0x30000000 ∷ 0x50100FFE ∷ 0x40010007 ∷ 0x40020003 ∷ 0x20000000 ∷ 0x20000000 ∷ 0x51001002 ∷
+    0x60000000 ∷ 0x51001000 ∷ []
+
+pub attained-outside :
+    (attains closing 6 1 ≡ 1) × (attains closing 6 2 ≡ 10) × (attains closing 7 1 ≡ 10) × (attains closing 7 2 ≡ 100) ×
+    (attains closing 9 3 ≡ 1000) × (attains closing 5 2 ≡ 0) × (attains closing 10 2 ≡ 0) × (attains closingTarget 6 2 ≡ 90) ×
+    (attains closingTarget 7 2 ≡ 90) × (attains closingOther 6 2 ≡ 0) × (attains closingOther 7 0 ≡ 0) × (attains closingOther 7 1 ≡ 3) ×
+    (attains closingOther 7 2 ≡ 30) × (attains closingOther 9 3 ≡ 300)
+unfolding
+    among kindOf boundOf partsWith partsOf modelOf locationAt read holds? in? delayed masked? reset
+    later landing invariant? throughout? allowed? perStep edgesCount choiceCount moveCount atTarget? landingCount weightedCount
+attained-outside = (refl, refl, refl, refl, refl, refl, refl, refl, refl, refl, refl, refl, refl, refl)
 
 -- ---- what a scheduler sees: every state so far, in their order, the present one last
 
 -- for every list: the scheduler is shown the list with the present state at its end, and so it is where the count goes on
-pub count-step : (M : Model) (k : ℕ) (σ : Scheduler) (n : ℕ) (before : List State) (s : State) → missed? M k s ≡ false →
-    weightedCount M k σ (suc n) before s ≡ moveCount M k s (weightedCount M k σ n (before ++ (s ∷ []))) (σ (before ++ (s ∷ [])))
+pub count-step : (M : Model) (k : ℕ) (σ : Scheduler) (n : ℕ) (before : List State) (s : State) → atTarget? M s ≡ false →
+    weightedCount M k σ (suc n) before s ≡
+    moveCount M k s (landingCount M k (perStep M ^ n) (weightedCount M k σ n (before ++ (s ∷ [])))) (σ (before ++ (s ∷ [])))
 unfolding weightedCount
 count-step M k σ n before s e = rw e
 
@@ -172,5 +208,5 @@ Order = (seen (begins? passed) ≡ 242) × (seen (λ h. begins? passed (reverse 
 pub sees : Lengths × Earlier × Order
 unfolding
     among kindOf boundOf partsWith partsOf modelOf locationAt read holds? in? delayed masked? reset
-    later landing invariant? throughout? land? allowed? perStep edgesCount choiceCount moveCount missed? weightedCount begins?
+    later landing invariant? throughout? allowed? perStep edgesCount choiceCount moveCount atTarget? landingCount weightedCount begins?
 sees = ((refl, refl, refl, refl, refl, refl), (refl, refl, refl), (refl, refl))

@@ -3,7 +3,7 @@
 use Prim.Native.Nat.{ℕ, zero, suc, _+_, _*_, _^_, _≤_, _<_, zero-le}
 use mathlib.Core.Path.{_≡_, refl, sym, subst, _∙_}
 use mathlib.Core.Logic.{_⊎_, inl, inr}
-use mathlib.Core.Bool.{true, false, _&&_}
+use mathlib.Core.Bool.{true, false}
 use mathlib.Core.List.{List, [], _∷_}
 use mathlib.Core.Option.{some}
 use native.Mathlib.Omega.{arith}
@@ -16,10 +16,10 @@ use Rattle.zone.proofs.Bools.{by-test, both}
 use Rattle.zone.proofs.Attained.{delayed-zero}
 use Rattle.model.specs.Model.{Edge, Action, Model}
 use Rattle.model.specs.States.{State, locationAt, IsStart}
-use Rattle.table.specs.Table.{Successor, Row, blockedRow, successorRow, Body, rowsBody, cutBody, Table, nodeAt, rowActions}
-use Rattle.acceptance.specs.Choices.{later, landing, invariant?, throughout?, land?, allowed?}
-use Rattle.acceptance.specs.Schedulers.{Scheduler, perStep, edgesCount, missed?, weightedCount, BoundsEvery}
-use Rattle.acceptance.specs.Acceptance.{Reach, Pairwise, worth, rowSum, SuccessorFits, RowFits}
+use Rattle.table.specs.Table.{Successor, Row, blockedRow, successorRow, Body, rowsBody, cutBody, Node, Table, nodeAt, rowActions}
+use Rattle.acceptance.specs.Choices.{later, landing, invariant?, throughout?, allowed?}
+use Rattle.acceptance.specs.Schedulers.{Scheduler, perStep, edgesCount, atTarget?, landingCount, weightedCount, BoundsEvery}
+use Rattle.acceptance.specs.Acceptance.{Reach, Pairwise, landings, landingsInside, Worth, SumOf, SuccessorFits, RowFits}
 use Rattle.acceptance.specs.Acceptance.{holdingPart, restPart, PartFits, BodyFits, startValuations, Accepted, certified}
 use Rattle.acceptance.proofs.CutLaws.{parts-cover}
 use Rattle.acceptance.proofs.SchedulerLaws.{by-step, some-one, none-some}
@@ -40,17 +40,19 @@ pair-at P (x′ ∷ xs) [] i x ps e = absurd ps
 pair-at P (x′ ∷ xs) (y ∷ ys) zero x ps e = (y, subst (λ z. P z y) (some-one e) (ps .0))
 pair-at P (x′ ∷ xs) (y ∷ ys) (suc i) x ps e = pair-at P xs ys i x (ps .1) e
 
--- a bound for each successor is one for the row
+-- a bound for each edge, by what it has in the sum, is one for the row
 sums :
-    (W : Table) (rest : State → ℕ) (u : State) (whole power : ℕ) (P : Edge → Successor → Type 0) →
-    ((e : Edge) (s : Successor) → P e s → rest (landing e u) * whole ≤ worth W s * power) →
-    (es : List Edge) (ss : List Successor) → Pairwise P es ss → edgesCount rest u es * whole ≤ rowSum W es ss * power
-unfolding edgesCount rowSum
-sums W rest u whole power P f [] [] ps = rw (zero-mul whole) zero-le
-sums W rest u whole power P f [] (s ∷ ss) ps = absurd ps
-sums W rest u whole power P f (e ∷ es) [] ps = absurd ps
-sums W rest u whole power P f (e ∷ es) (s ∷ ss) ps =
-    simp (add-mul, mul-assoc) (add-le-add (mul-le-mul-left (e .weight) (f e s (ps .0))) (sums W rest u whole power P f es ss (ps .1)))
+    (M : Model) (W : Table) (N : Node) (A : Action) (rest : State → ℕ) (u : State) (power : ℕ) (P : Edge → Successor → Type 0) →
+    ((e : Edge) (s : Successor) → P e s → (y : ℕ) → Worth M W N A e s y → rest (landing e u) * W .whole ≤ y * power) →
+    (es : List Edge) (ss : List Successor) → Pairwise P es ss → (x : ℕ) → SumOf M W N A es ss x → edgesCount rest u es * W .whole ≤ x * power
+unfolding edgesCount
+sums M W N A rest u power P f [] [] ps x o = rw (zero-mul (W .whole)) zero-le
+sums M W N A rest u power P f [] (s ∷ ss) ps x o = absurd ps
+sums M W N A rest u power P f (e ∷ es) [] ps x o = absurd ps
+sums M W N A rest u power P f (e ∷ es) (s ∷ ss) ps x o =
+    rw (o .4)
+    (simp (add-mul, mul-assoc)
+    (add-le-add (mul-le-mul-left (e .weight) (f e s (ps .0) (o .0) (o .2))) (sums M W N A rest u power P f es ss (ps .1) (o .1) (o .3))))
 
 -- ---- an allowed choice is one from a state
 invariant-now : (M : Model) (k : ℕ) (s : State) (t : ℕ) → T (throughout? M k s t) → T (invariant? M k (later s 0))
@@ -62,9 +64,7 @@ allowed-invariant : (M : Model) (k : ℕ) (s : State) (A : Action) (t : ℕ) →
     within (locationAt M (s .location) .invariant) k (s .valuation)
 unfolding allowed? invariant? later within
 allowed-invariant M k s A t h =
-    let guard = in? k (later s t .valuation) (A .guard) in
-    let lands = land? M k (A .edges) (later s t) in
-    let through : T (throughout? M k s t) = both (throughout? M k s t) guard (both (throughout? M k s t && guard) lands h .0) .0 in
+    let through : T (throughout? M k s t) = both (throughout? M k s t) (in? k (later s t .valuation) (A .guard)) h .0 in
     subst (λ u. T (in? k u (locationAt M (s .location) .invariant))) (delayed-zero (s .valuation)) (invariant-now M k s t through)
 
 -- ---- the bound
@@ -76,8 +76,8 @@ module _ (M : Model) (W : Table) (ok : Accepted M W) (k : ℕ) (positive : 1 ≤
       weightedCount M k σ n before s * W .whole ≤ nodeAt W b .value * perStep M ^ n
 
   -- a target node has the value V
-  at-target : (n b : ℕ) (s : State) → Holds W k b s → missed? M k s ≡ true → perStep M ^ n * W .whole ≤ nodeAt W b .value * perStep M ^ n
-  unfolding missed?
+  at-target : (n b : ℕ) (s : State) → Holds W k b s → atTarget? M s ≡ true → perStep M ^ n * W .whole ≤ nodeAt W b .value * perStep M ^ n
+  unfolding atTarget?
   at-target n b s H y =
       let sure : nodeAt W b .value ≡ W .whole = ok .nodes b (H .exists) .target (rw (← H .location, y) tt) in
       rw (sure, mul-comm (perStep M ^ n) (W .whole)) (le-refl _)
@@ -114,9 +114,9 @@ module _ (M : Model) (W : Table) (ok : Accepted M W) (k : ℕ) (positive : 1 ≤
           part (inr p) = onto (restPart (nodeAt W b) (c .bound)) (c .rest) (f .rest) p
 
   -- elsewhere each action has a row there
-  row-for : (b : ℕ) (s : State) (r : Settled b s) → missed? M k s ≡ false → (a : ℕ) (A : Action) →
+  row-for : (b : ℕ) (s : State) (r : Settled b s) → atTarget? M s ≡ false → (a : ℕ) (A : Action) →
       getElem? (locationAt M (s .location) .actions) a ≡ some A → (row : Row) × RowFits M W (nodeAt W (r .node)) A row
-  unfolding missed? rowActions
+  unfolding atTarget? rowActions
   row-for b s r n a A e =
       let elsewhere : locationAt M (nodeAt W (r .node) .location) .target ≡ false = rw (← r .holds .location) n in
       pair-at (RowFits M W (nodeAt W (r .node))) (locationAt M (nodeAt W (r .node) .location) .actions) (r .rows) a A
@@ -135,33 +135,61 @@ module _ (M : Model) (W : Table) (ok : Accepted M W) (k : ℕ) (positive : 1 ≤
     attains = refl;
   }
 
-  -- where every weighted count for n steps is bounded, so is what a choice comes to
-  onward : (n : ℕ) → Bounded n → (b : ℕ) (history : List State) (A : Action) (u : State) → Reach M (nodeAt W b) A k (u .valuation) → (r : Row) →
-      RowFits M W (nodeAt W b) A r →
-      edgesCount (weightedCount M k σ n history) u (A .edges) * W .whole ≤ nodeAt W b .value * perStep M ^ suc n
-  unfolding perStep landing worth
-  onward n all b history A u R (blockedRow p) f = absurd (f .at k positive (u .valuation) R)
-  onward n all b history A u R (successorRow p ss) f =
-      le-trans
-      (sums W (weightedCount M k σ n history) u (W .whole) (perStep M ^ n) (SuccessorFits M W (nodeAt W b) A) lands (A .edges) ss
-      (f .successors))
-      (le-trans (mul-le-mul-right (perStep M ^ n) (f .sum)) (le-of-eq total))
-    where
-      lands : (e : Edge) (s : Successor) → SuccessorFits M W (nodeAt W b) A e s →
-          weightedCount M k σ n history (landing e u) * W .whole ≤ worth W s * perStep M ^ n
-      lands e s x = all (s .node) history (landing e u) (record {
+  -- where every weighted count for n steps is bounded, so is what an edge comes to, and what a choice comes to
+  module _ (n : ℕ) (all : Bounded n) (b : ℕ) (history : List State) (A : Action) (u : State) (R : Reach M (nodeAt W b) A k (u .valuation)) where
+    abbrev rest : State → ℕ
+    rest = landingCount M k (perStep M ^ n) (weightedCount M k σ n history)
+
+    lands-at : (e : Edge) → landings M (nodeAt W b) A e k (reset (e .mask) (u .valuation))
+    lands-at e = record { before = u .valuation; was = R; lands = refl }
+
+    module _ (e : Edge) (s : Successor) (x : SuccessorFits M W (nodeAt W b) A e s) (y : ℕ) where
+      -- the successor holds a landing inside
+      held : invariant? M k (landing e u) ≡ true →
+          weightedCount M k σ n history (landing e u) * W .whole ≤ nodeAt W (s .node) .value * perStep M ^ n
+      unfolding landingsInside landing invariant? within
+      held i = all (s .node) history (landing e u) (record {
         exists = x .exists;
         location = sym (x .location);
-        zone = x .inside .at k positive (reset (e .mask) (u .valuation)) (record { before = u .valuation; was = R; lands = refl });
+        zone = x .inside .at k positive (reset (e .mask) (u .valuation)) (lands-at e, rw i tt);
       })
 
-      total : M .denominator * nodeAt W b .value * perStep M ^ n ≡ nodeAt W b .value * perStep M ^ suc n
-      total = rw (pow-succ', mul-comm (M .denominator) (nodeAt W b .value)) (mul-assoc (nodeAt W b .value) (M .denominator) (perStep M ^ n))
+      inside : Worth M W (nodeAt W b) A e s y → invariant? M k (landing e u) ≡ true →
+          weightedCount M k σ n history (landing e u) * W .whole ≤ y * perStep M ^ n
+      inside (inl w) i = rw (w .1) (le-trans (held i) (mul-le-mul-right (perStep M ^ n) (ok .nodes (s .node) (x .exists) .value)))
+      inside (inr w) i = rw (w .1) (held i)
+
+      outside : Worth M W (nodeAt W b) A e s y → invariant? M k (landing e u) ≡ false → perStep M ^ n * W .whole ≤ y * perStep M ^ n
+      unfolding landing invariant?
+      outside (inl w) i = rw (w .1, mul-comm (perStep M ^ n) (W .whole)) (le-refl _)
+      outside (inr w) i = absurd (w .0 (record {
+        scale = k;
+        positive = positive;
+        valuation = reset (e .mask) (u .valuation);
+        lands = lands-at e;
+        outside = rw i tt;
+      }))
+
+      comes : Worth M W (nodeAt W b) A e s y → rest (landing e u) * W .whole ≤ y * perStep M ^ n
+      unfolding landingCount
+      comes w = by-test (λ (c : ℕ). c * W .whole ≤ y * perStep M ^ n) (invariant? M k (landing e u)) _ _ (inside w) (outside w)
+
+    onward : (r : Row) → RowFits M W (nodeAt W b) A r → edgesCount rest u (A .edges) * W .whole ≤ nodeAt W b .value * perStep M ^ suc n
+    unfolding perStep
+    onward (blockedRow p) f = absurd (f .at k positive (u .valuation) R)
+    onward (successorRow p ss) f =
+        le-trans
+        (sums M W (nodeAt W b) A rest u (perStep M ^ n) (SuccessorFits M W (nodeAt W b) A) comes (A .edges) ss (f .successors) (f .sum .0)
+        (f .sum .1))
+        (le-trans (mul-le-mul-right (perStep M ^ n) (f .sum .2)) (le-of-eq total))
+      where
+        total : M .denominator * nodeAt W b .value * perStep M ^ n ≡ nodeAt W b .value * perStep M ^ suc n
+        total = rw (pow-succ', mul-comm (M .denominator) (nodeAt W b .value)) (mul-assoc (nodeAt W b .value) (M .denominator) (perStep M ^ n))
 
   bounded : (n : ℕ) → Bounded n
   unfolding weightedCount
   bounded zero b before s H =
-      by-test (λ (c : ℕ). c * W .whole ≤ nodeAt W b .value * perStep M ^ zero) (missed? M k s) _ _ (at-target zero b s H)
+      by-test (λ (c : ℕ). c * W .whole ≤ nodeAt W b .value * perStep M ^ zero) (atTarget? M s) _ _ (at-target zero b s H)
       (λ y. rw zero-mul zero-le)
   bounded (suc n) b before s H =
       by-step M k σ n before s (λ c. c * W .whole ≤ nodeAt W b .value * perStep M ^ suc n) (at-target (suc n) b s H) (rw zero-mul zero-le)

@@ -10,7 +10,8 @@ use Rattle.zone.proofs.Bools.{by-test}
 use Rattle.model.specs.Model.{Action, Model}
 use Rattle.model.specs.States.{State, locationAt}
 use Rattle.acceptance.specs.Choices.{later, allowed?}
-use Rattle.acceptance.specs.Schedulers.{Move, stop, choose, Scheduler, perStep, edgesCount, choiceCount, moveCount, missed?, weightedCount}
+use Rattle.acceptance.specs.Schedulers.{Move, stop, choose, Scheduler, perStep, edgesCount, choiceCount, moveCount}
+use Rattle.acceptance.specs.Schedulers.{atTarget?, landingCount, weightedCount}
 
 -- what holds of 0, and of what each allowed choice of an action of the present location comes to, holds of what a move comes to
 pub by-move :
@@ -29,12 +30,12 @@ by-move M k s rest P (choose c) p f = by (getElem? (locationAt M (s .location) .
 -- the same of a count for one step more, whatever list of states the scheduler sees
 pub by-step :
     (M : Model) (k : ℕ) (σ : Scheduler) (n : ℕ) (before : List State) (s : State) (P : ℕ → Type 0) →
-    (missed? M k s ≡ true → P (perStep M ^ suc n)) → P 0 →
-    (missed? M k s ≡ false → (history : List State) (t a : ℕ) (A : Action) → getElem? (locationAt M (s .location) .actions) a ≡ some A →
-    allowed? M k s A t ≡ true → P (edgesCount (weightedCount M k σ n history) (later s t) (A .edges))) →
+    (atTarget? M s ≡ true → P (perStep M ^ suc n)) → P 0 →
+    (atTarget? M s ≡ false → (history : List State) (t a : ℕ) (A : Action) → getElem? (locationAt M (s .location) .actions) a ≡ some A →
+    allowed? M k s A t ≡ true → P (edgesCount (landingCount M k (perStep M ^ n) (weightedCount M k σ n history)) (later s t) (A .edges))) →
     P (weightedCount M k σ (suc n) before s)
 unfolding weightedCount
-by-step M k σ n before s P there p f = by-test P (missed? M k s) _ _ there (λ y. by-move M k s _ P _ p (f y _))
+by-step M k σ n before s P there p f = by-test P (atTarget? M s) _ _ there (λ y. by-move M k s _ P _ p (f y _))
 
 -- the cases of an option
 pub some-one : {A : Type 0} {x y : A} → some x ≡ some y → x ≡ y

@@ -1,11 +1,12 @@
--- Document 01, "When a table is accepted", and document 02, card 1. Assumes nothing.
+-- Document 01, "When a table is accepted", and document 02, cards 1 and 4. Assumes nothing.
 use Prim.Native.Nat.{ℕ, _+_, _*_, _≤_, _<_}
 use mathlib.Core.Path.{_≡_}
+use mathlib.Core.Logic.{_⊎_}
 use mathlib.Core.Bool.{not}
 use mathlib.Core.List.{List, [], _∷_}
 use lib.ListN.{length}
 use lib.Dec.{T}
-use Rattle.zone.specs.Scale.{Valuation, Bound, holds?, Region, within, Empty, Inside}
+use Rattle.zone.specs.Scale.{Valuation, Bound, holds?, in?, Region, within, Empty, Inside}
 use Rattle.zone.specs.Moves.{ResetOf}
 use Rattle.model.specs.Model.{Edge, Action, Model}
 use Rattle.model.specs.States.{State, locationAt, IsState, IsStart}
@@ -33,29 +34,46 @@ Pairwise P (x ∷ xs) (y ∷ ys) = P x y × Pairwise P xs ys
 abbrev pub HasLocation : Table → Edge → Successor → Type 0
 HasLocation W e s = nodeAt W (s .node) .location ≡ e .to
 
--- its zone holds the whole reset reach: the reach with the edge's masked clocks set to 0
-abbrev pub HoldsReach : Model → Table → Node → Action → Edge → Successor → Type 0
-HoldsReach M W N A e s = Inside (ResetOf (e .mask) (Reach M N A)) (within (nodeAt W (s .node) .zone))
+-- where an edge lands: the reset reach, the reach with the edge's masked clocks set to 0
+abbrev pub landings : Model → Node → Action → Edge → Region
+landings M N A e = ResetOf (e .mask) (Reach M N A)
 
--- what a successor is worth in the sum: its value
-unfoldable pub worth : Table → Successor → ℕ
-worth W s = nodeAt W (s .node) .value
+-- the landings inside: those in the invariant of the edge's location (card 4)
+unfoldable pub landingsInside : Model → Node → Action → Edge → Region
+landingsInside M N A e k v = landings M N A e k v × within (locationAt M (e .to) .invariant) k v
 
--- the sum that a row gives: of weight × what the successor is worth
-unfoldable pub rowSum : Table → List Edge → List Successor → ℕ
-rowSum W [] ss = 0
-rowSum W (e ∷ es) [] = 0
-rowSum W (e ∷ es) (s ∷ ss) = e .weight * worth W s + rowSum W es ss
+-- the successor's zone holds them
+abbrev pub HoldsLandings : Model → Table → Node → Action → Edge → Successor → Type 0
+HoldsLandings M W N A e s = Inside (landingsInside M N A e) (within (nodeAt W (s .node) .zone))
+
+-- the edge can land outside: some landing of it, at some scale, is not in that invariant (card 4)
+pub record CanLandOutside (M : Model) (N : Node) (A : Action) (e : Edge) : Type 0 where
+  pub scale : ℕ
+  pub positive : 1 ≤ scale
+  pub valuation : Valuation
+  pub lands : landings M N A e scale valuation
+  pub outside : T (not (in? scale valuation (locationAt M (e .to) .invariant)))
+
+-- what an edge has in the sum: V if it can land outside, else its successor's value (card 4)
+abbrev pub Worth : Model → Table → Node → Action → Edge → Successor → ℕ → Type 0
+Worth M W N A e s x =
+    (CanLandOutside M N A e × (x ≡ W .whole)) ⊎ ((CanLandOutside M N A e → ⊥) × (x ≡ nodeAt W (s .node) .value))
+
+-- the sum that a row gives: of weight × what the edge has; there is one at most
+abbrev pub SumOf : Model → Table → Node → Action → List Edge → List Successor → ℕ → Type 0
+SumOf M W N A [] ss x = x ≡ 0
+SumOf M W N A (e ∷ es) [] x = x ≡ 0
+SumOf M W N A (e ∷ es) (s ∷ ss) x = (y : ℕ) × (z : ℕ) × Worth M W N A e s y × SumOf M W N A es ss z × (x ≡ e .weight * y + z)
 
 -- it is at most D × the node's value
 abbrev pub SumFits : Model → Table → Node → Action → List Successor → Type 0
-SumFits M W N A ss = rowSum W (A .edges) ss ≤ M .denominator * N .value
+SumFits M W N A ss = (x : ℕ) × SumOf M W N A (A .edges) ss x × (x ≤ M .denominator * N .value)
 
 -- the number of the successor is that of a node, as "Words" asks
 pub record SuccessorFits (M : Model) (W : Table) (N : Node) (A : Action) (e : Edge) (s : Successor) : Type 0 where
   pub exists : s .node < length (W .nodes)
   pub location : HasLocation W e s
-  pub inside : HoldsReach M W N A e s
+  pub inside : HoldsLandings M W N A e s
 
 -- a successor for each edge, and the sum
 pub record SuccessorsFit (M : Model) (W : Table) (N : Node) (A : Action) (ss : List Successor) : Type 0 where

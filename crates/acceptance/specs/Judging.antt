@@ -1,5 +1,5 @@
--- Document 01, "The four calls and their refusals", and document 02, card 1: judging a table. The model's refusals 1 to 6 come first, then those
--- of the table's words, 11 to 14, then 15 to 21 with 51 to 53 of cuts among them. Assumes nothing.
+-- Document 01, "The four calls and their refusals", and document 02, cards 1 and 4: judging a table. The model's refusals 1 to 6 come first, then
+-- those of the table's words, 11 to 14, then 15 to 21 with 51 to 53 of cuts among them. Assumes nothing.
 use Prim.Native.Nat.{ℕ, suc}
 use mathlib.Core.Path.{_≡_}
 use mathlib.Core.Logic.{_↔_}
@@ -17,7 +17,7 @@ use Rattle.acceptance.specs.Schedulers.{BoundsEvery}
 use Rattle.acceptance.specs.Acceptance.{
   Reach,
   HasLocation,
-  HoldsReach,
+  HoldsLandings,
   SumFits,
   holdingPart,
   restPart,
@@ -32,14 +32,14 @@ use Rattle.acceptance.specs.Acceptance.{
 }
 use Rattle.acceptance.specs.declared.certificate.Certificate.{Certificate}
 
--- by successor 17: wrong location, 18: reset reach not inside (each at its B word). `tableOf` gives a successor for each edge and, below, a row for
--- each action, so neither list ends before the other
+-- by successor 17: wrong location, 18: reset reach not inside, of which the landings inside alone count (each at its B word). `tableOf` gives a
+-- successor for each edge and, below, a row for each action, so neither list ends before the other
 unfoldable pub successorChecks : Model → Table → Node → Action → List Edge → List Successor → List Check
 successorChecks M W N A [] ss = []
 successorChecks M W N A (e ∷ es) [] = []
 successorChecks M W N A (e ∷ es) (s ∷ ss) =
     check 17 (s .place) (HasLocation W e s) ∷
-    check 18 (s .place) (HoldsReach M W N A e s) ∷
+    check 18 (s .place) (HoldsLandings M W N A e s) ∷
     successorChecks M W N A es ss
 
 -- 16: not blocked (the A word); or by successor, then 19: sum too large (the row's first B)

@@ -1,7 +1,7 @@
 -- What the parts of the call return decides its verdict. Assumes nothing.
 use Prim.Native.Nat.{ℕ, _≤_, _<_}
 use mathlib.Core.Path.{_≡_, refl, sym, ap, subst, _∙_}
-use mathlib.Core.Bool.{true, false}
+use mathlib.Core.Bool.{Bool, true, false}
 use mathlib.Core.List.{List, [], _∷_}
 use native.Mathlib.Omega.{arith}
 use lib.IntN.{ℤ}
@@ -38,7 +38,7 @@ use Rattle.table.proofs.Shape.{NodeShaped, Shaped, shaped}
 use Rattle.acceptance.specs.Acceptance.{startValuations, certified}
 use Rattle.acceptance.specs.Judging.{nodesChecks, certificateOf, Judged, Exactly, BoundsSchedulers}
 use Rattle.judge.specs.Verdicts.{verdictAnswer}
-use Rattle.judge.specs.Reaching.{ActionsFit, enabledKept}
+use Rattle.judge.specs.Reaching.{limitedBelow}
 use Rattle.judge.specs.Walk.{walked, WalkAsked}
 use Rattle.judge.specs.Findings.{findingAnswer}
 use Rattle.judge.specs.Deciding.{HandsOn, startVerdict}
@@ -49,7 +49,7 @@ use Rattle.judge.specs.declared.verdict.Verdict.{Verdict}
 use Rattle.acceptance.proofs.Exact.{exactly, promised}
 use Rattle.judge.proofs.Starting.{start-not-empty, start-inside-yes, start-inside-no}
 use Rattle.judge.proofs.Starts.{start-first}
-use Rattle.judge.proofs.RowLaws.{node-at, shaped-at, actions-fit}
+use Rattle.judge.proofs.RowLaws.{node-at, shaped-at}
 use Rattle.judge.proofs.Walking.{walk-first}
 use Rattle.judge.proofs.WalkRanges.{walk-asked}
 use Rattle.judge.proofs.Handing.{model-handed, words-handed, node-handed, start-handed}
@@ -119,8 +119,12 @@ module _ (words : List ℕ) (r : ModelRead) (es : List ℕ) (zs : List ℤ) (m :
   pub fits : IndexFits (r .index)
   fits = index-fits formed x
 
-  pub all-fit : ActionsFit (r .index)
-  all-fit = actions-fit M kept x good formed
+  pub few-locations : r .index .locations ≤ 16
+  few-locations = x .limit
+
+  -- of each location, whether its invariant leaves a valuation out
+  abbrev pub limited : List Bool
+  limited = limitedBelow zs (r .index .locations)
 
   -- the table's nodes and their zones stand in the stores ns and ys
   module _ (list : List ℕ) (t : TableRead) (ns : List ℕ) (ys : List ℤ) (rows : ReadFor (r .index) list t ns ys) where
@@ -152,13 +156,13 @@ module _ (words : List ℕ) (r : ModelRead) (es : List ℕ) (zs : List ℤ) (m :
       shape = shaped M list formed words-hold
 
       abbrev walks : Finding
-      walks = walked list (enabledKept kept) k t
+      walks = walked list kept limited k t
 
-      pub asked : StoresFit ns ys → WalkAsked list (enabledKept kept) k (t .count)
+      pub asked : StoresFit ns ys → WalkAsked list kept k (t .count)
       asked rooms = walk-asked M list kept t k x good formed indexed shape (m .room) rooms
 
       says : First (nodesChecks M W 0 (W .nodes)) (λ (_ : Unit {0}). Unit {0}) (findingAnswer walks)
-      says = walk-first M list kept t k x good formed indexed shape (m .room)
+      says = walk-first M list kept t k x good formed indexed shape
 
       -- 15 to 19 and 51 to 53
       pub node-refused : (v : Verdict) → HandsOn (findingAnswer walks) (verdictAnswer v) → (walks ≡ finding.None → ⊥) →

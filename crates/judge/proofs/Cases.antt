@@ -1,5 +1,5 @@
--- The cases of document 01 marked *, as one statement about the definitions, and cases of cuts (document 02, card 1) as another: computed by the
--- algorithms, whose answers are proved. Assumes nothing.
+-- The cases of document 01 marked *, as one statement about the definitions, and cases of cuts (document 02, card 1) and of landings outside (card 4)
+-- as two others: computed by the algorithms, whose answers are proved. Assumes nothing.
 use Prim.Native.Nat.{ℕ}
 use mathlib.Core.Path.{_≡_, refl, subst}
 use mathlib.Core.Bool.{true, false}
@@ -10,7 +10,7 @@ use Rattle.zone.specs.Words.{boundOf, boundFields?}
 use Rattle.zone.specs.Checks.{Answer, refused, accepted}
 use Rattle.zone.specs.Questions.{AskedEmpty, AskedInside}
 use Rattle.zone.specs.Cells.{tighter?, tighterOf, sum, negated, negative?}
-use Rattle.zone.specs.Squares.{listOf, withBound, passedBelow, source, beforeBelow, all?, empty?, inside?}
+use Rattle.zone.specs.Squares.{listOf, withBound, passedBelow, source, all?, empty?, inside?}
 use Rattle.zone.specs.Reading.{withWord}
 use Rattle.zone.specs.Parts.{holdingSquare, restSquare}
 use Rattle.zone.specs.Stores.{zoneAt, putBelow, putAt, withWordAt}
@@ -31,13 +31,14 @@ use Rattle.table.specs.Nodes.{entryAt, putEntry}
 use Rattle.table.specs.Index as index
 use Rattle.acceptance.specs.Judging.{Judged}
 use Rattle.judge.specs.Verdicts.{verdictAnswer}
-use Rattle.judge.specs.Reaching.{withLanding, withLandings, enabledSquare, enabledBelow, enabledKeys, waitedSquare, reachSquare}
+use Rattle.judge.specs.Reaching.{common, waitedSquare, limitedBelow, landsInside?}
+use Rattle.judge.specs.Landing.{heldFinding, landingsOutcome, successorOutcome}
 use Rattle.judge.specs.Findings.{orElse}
 use Rattle.judge.specs.Cutting.{partFinding, cutFinding}
-use Rattle.judge.specs.Walk.{successorFinding, successorOutcome, successorsFrom, rowsFrom, rowsFinding, nodeFinding, nodesFrom, walked}
+use Rattle.judge.specs.Walk.{successorsFrom, rowsFrom, rowsFinding, nodeFinding, nodesFrom, walked}
 use Rattle.judge.specs.Deciding.{startVerdict}
 use Rattle.acceptance.specs.declared.certificate.Certificate.{Certificate}
-use Rattle.acceptance.proofs.CountLaws.{timeline}
+use Rattle.acceptance.proofs.CountLaws.{timeline, closing}
 use Rattle.judge.proofs.Computing.{behindModel, behindWords, behindNodes, judged, judgedBehind, judgedFrom, computed, computes}
 
 -- T; M is `timeline`
@@ -72,6 +73,10 @@ cutTable =
 abbrev acceptsCut : Answer Certificate
 acceptsCut = accepted (record { b = 1; whole = 10; nodes = 5 })
 
+-- `ACCEPTED 10 10 3`
+abbrev acceptsWhole : Answer Certificate
+acceptsWhole = accepted (record { b = 10; whole = 10; nodes = 3 })
+
 answers :
     (verdictAnswer (computed timeline table) ≡ accepts) ×
     (verdictAnswer (computed timeline (set table 3 0x90000000)) ≡ refused 19 4) ×
@@ -87,18 +92,25 @@ answers :
     (verdictAnswer (computed timeline (set (set cutTable 4 0xB0000002) 5 0xB0000001)) ≡ refused 53 5) ×
     (verdictAnswer (computed timeline (set cutTable 7 0x51081001)) ≡ refused 53 4) ×
     (verdictAnswer (computed timeline (set cutTable 3 0xD0101001)) ≡ refused 12 3) ×
-    (verdictAnswer (computed timeline (set cutTable 5 0xA0000000)) ≡ refused 11 5)
+    (verdictAnswer (computed timeline (set cutTable 5 0xA0000000)) ≡ refused 11 5) ×
+    (verdictAnswer (computed closing table) ≡ refused 19 4) ×
+    (verdictAnswer (computed closing (set table 3 0x9000000A)) ≡ acceptsWhole) ×
+    (verdictAnswer (computed closing (set (boundedTable 0x51001002) 3 0x9000000A)) ≡ acceptsWhole) ×
+    (verdictAnswer (computed closing (set (boundedTable 0x51081002) 3 0x9000000A)) ≡ refused 18 4) ×
+    (verdictAnswer (computed (set closing 8 0x51001001) blockedTable) ≡ refused 16 4)
 unfolding
-    masked? boundOf boundFields? tighter? tighterOf sum negative? listOf withBound passedBelow source beforeBelow all? empty? inside? zoneAt putBelow
+    masked? boundOf boundFields? tighter? tighterOf sum negative? listOf withBound passedBelow source all? empty? inside? zoneAt putBelow
     putAt withWordAt among kindOf tableKindOf follows tableFollows numbered? mayFollow? follows? tableFollows? fields? limit? adds? fieldsAt? limitAt?
     addsAt? faultAt lastFault seenWithKind seenWith keptWithKind keptWith closed unlessFault scanFrom scanned firstMissing missingOf startSquare
     wholeAnswer faultAnswer answerOf fields.fields? reading.limit? scan.rowsAllowKind? scan.rowsAllowAt? scan.fieldsAt? scan.limitAt? scan.faultAt
     scan.lastFault scan.firstRow scan.endRow scan.rowsAt scan.edgesAt scan.rowSize scan.sizeAt scan.seenWithKind scan.seenWith entryAt putEntry
-    index.keptWithKind index.keptWith index.unlessFault index.scanFrom index.scanned index.numbersAnswer index.answerOf withLanding withLandings
-    enabledSquare enabledBelow enabledKeys waitedSquare reachSquare successorFinding successorOutcome orElse successorsFrom rowsFrom
-    rowsFinding negated withWord holdingSquare restSquare partFinding cutFinding nodeFinding nodesFrom walked startVerdict verdictAnswer
-    behindModel behindWords behindNodes judged judgedBehind judgedFrom computed
-answers = (refl, refl, refl, refl, refl, refl, refl, refl, refl, refl, refl, refl, refl, refl, refl)
+    index.keptWithKind index.keptWith index.unlessFault index.scanFrom index.scanned index.numbersAnswer index.answerOf common waitedSquare
+    limitedBelow landsInside? heldFinding landingsOutcome successorOutcome orElse successorsFrom rowsFrom rowsFinding negated withWord
+    holdingSquare restSquare partFinding cutFinding nodeFinding nodesFrom walked startVerdict verdictAnswer behindModel
+    behindWords behindNodes judged judgedBehind judgedFrom computed
+answers = (
+  refl, refl, refl, refl, refl, refl, refl, refl, refl, refl, refl, refl, refl, refl, refl, refl, refl, refl, refl, refl,
+)
 
 -- what is computed is the answer
 answered : (words list : List ℕ) (a : Answer Certificate) → verdictAnswer (computed words list) ≡ a → Judged words list a
@@ -148,4 +160,21 @@ cut-cases = (
   answered _ _ _ (answers .12),
   answered _ _ _ (answers .13),
   answered _ _ _ (answers .14),
+)
+
+-- M with a location 1 that holds for two units, where the action may be taken until three: the edge of weight 9 can land outside. T is refused, which
+-- gave 1/10 before; the value 10 is accepted, also where node 1 holds two units only, the landings inside, but not where it leaves two itself out.
+-- Where location 1 holds for one unit every landing is outside, and the row, blocked before, no longer is
+pub outside-cases :
+    Judged closing table (refused 19 4) ×
+    Judged closing (set table 3 0x9000000A) acceptsWhole ×
+    Judged closing (set (boundedTable 0x51001002) 3 0x9000000A) acceptsWhole ×
+    Judged closing (set (boundedTable 0x51081002) 3 0x9000000A) (refused 18 4) ×
+    Judged (set closing 8 0x51001001) blockedTable (refused 16 4)
+outside-cases = (
+  answered _ _ _ (answers .15),
+  answered _ _ _ (answers .16),
+  answered _ _ _ (answers .17),
+  answered _ _ _ (answers .18),
+  answered _ _ _ (answers .19),
 )

@@ -1,118 +1,103 @@
--- What each action asks before its resets, worked out edge by edge and put in place of its guard. Assumes nothing.
-use Prim.Native.Nat.{ℕ, zero, suc, _+_, _-_, _*_, _≤_, _<_}
-use mathlib.Core.Path.{_≡_, refl, sym, ap, _∙_}
-use mathlib.Core.Logic.{_⊎_, inl, inr, _≢_}
+-- Which invariants leave a valuation out: what the code keeps of each location, and what it says. And what the code works out of an edge, step by
+-- step. Assumes nothing.
+use Prim.Native.Nat.{ℕ, zero, suc, _*_, _+_, _≤_, _<_}
+use mathlib.Core.Path.{_≡_, _∙_}
+use mathlib.Core.Logic.{_⊎_, inl, inr}
+use mathlib.Core.Bool.{Bool, true, false, not}
 use mathlib.Core.List.{List}
 use native.Mathlib.Nat.{eq-or-lt-of-le, le-of-suc-le-suc}
 use native.Mathlib.Numerals.{add-one}
 use native.Mathlib.Omega.{arith}
+use borrow.Author.Tests.{eq-eqb, ne-eqb}
 use lib.IntN.{ℤ}
-use lib.ListN.{getD, length}
-use Rattle.zone.specs.Squares.{met, beforeReset}
-use Rattle.zone.specs.Stores.{zoneAt, putAt}
+use lib.ListN.{getD, set, length, length-set}
+use lib.Seq.{getD-set-same, getD-set-other}
+use Rattle.zone.specs.Scale.{Valuation, Zone, within, in?}
+use Rattle.zone.specs.Squares.{universe, resetSquare, empty?, inside?}
+use Rattle.zone.specs.Stores.{zoneAt}
 use Rattle.zone.specs.declared.zones.Zone.{Zone as Square}
 use Rattle.zone.proofs.Loops.{listOf-length}
-use Rattle.zone.proofs.StoreLaws.{zone-length, put-length, put-here, put-apart}
-use Rattle.model.specs.Fields.{maskOf, landsAt}
-use Rattle.model.specs.Scan.{guardsAt, zoneCount}
-use Rattle.model.specs.Index.{Kept}
-use Rattle.judge.specs.Reaching.{withLanding, withLandings, enabledSquare, actionCount, enabledBelow, enabledKeys}
+use Rattle.zone.proofs.Regions.{stands-universe}
+use Rattle.zone.proofs.Spans.{spans, inside-yes}
+use Rattle.model.specs.Indexed.{withBounds}
+use Rattle.model.proofs.ZoneLaws.{GoodZone, stands-bounds}
+use Rattle.model.specs.Fields.{maskOf, landsAt, weightOf}
+use Rattle.table.specs.Nodes.{entryAt}
+use Rattle.table.specs.Index.{Kept}
+use Rattle.table.specs.declared.nodes.NodeEntry.{NodeEntry}
+use Rattle.judge.specs.Reaching.{common, limitedBelow, landsInside?}
+use Rattle.judge.specs.Landing.{heldFinding, landingsOutcome, successorOutcome}
+use Rattle.judge.specs.declared.findings.Finding.{Finding}
+use Rattle.judge.specs.declared.findings.Finding.the-variants as finding
+use Rattle.judge.specs.declared.landing.Outcome.{Outcome}
 
-module _ (zs : List ℤ) (es : List ℕ) (end e : ℕ) (z : Square) {goal : Square} (h : goal ≡ withLandings zs es (end - e) e z) where
-  -- one edge more
-  pub landings-go : {z′ before invariant : Square} {w mask lands : ℕ} → e < end → w ≡ getD es e 0 → lands ≡ landsAt w →
-      invariant ≡ zoneAt zs lands → mask ≡ maskOf w → before ≡ beforeReset mask invariant → z′ ≡ met z before →
-      goal ≡ withLandings zs es (end - (e + 1)) (e + 1) z′
-  unfolding withLandings withLanding
-  landings-go {z′} l ew el ei em eb ez =
-      let n : end - e ≡ suc (end - (e + 1)) = omega arith in
-      let same : z′ ≡ withLanding zs (getD es e 0) z = ez ∙ rw (eb, ei, el, em, ew) refl in
-      h ∙ ap (λ c. withLandings zs es c e z) n ∙ rw (add-one e, same) refl
+-- an invariant that leaves none out holds of every valuation
+pub unlimited : (I : Zone) → GoodZone I → inside? universe (withBounds I universe) ≡ true → (k : ℕ) → 1 ≤ k → (v : Valuation) → within I k v
+unfolding within in?
+unlimited I g e k k₁ v = inside-yes (spans stands-universe) (stands-bounds I g) e .at k k₁ v tt
 
-  -- no edge is left
-  pub landings-end : end ≤ e → goal ≡ z
-  unfolding withLandings
-  landings-end l = h ∙ ap (λ c. withLandings zs es c e z) (let n : end - e ≡ 0 = omega arith in n)
+module _ (zs : List ℤ) where
+  pub limited-length : (n : ℕ) → length (limitedBelow zs n) ≡ 16
+  unfolding limitedBelow
+  limited-length zero = listOf-length (λ _. false) 16 0
+  limited-length (suc n) = length-set (limitedBelow zs n) n (not (inside? universe (zoneAt zs n))) ∙ limited-length n
 
--- the landings look at the invariants alone
-landings-same : (ys zs : List ℤ) (es : List ℕ) → ((l : ℕ) → l < 16 → zoneAt ys l ≡ zoneAt zs l) → (n e : ℕ) (z : Square) →
-    withLandings ys es n e z ≡ withLandings zs es n e z
-unfolding withLandings withLanding
-landings-same ys zs es h zero e z = refl
-landings-same ys zs es h (suc n) e z =
-    let w : ℕ = getD es e 0 in
-    rw (h (landsAt w) (omega arith)) (landings-same ys zs es h n (suc e) (met z (beforeReset (maskOf w) (zoneAt zs (landsAt w)))))
-
-landings-length : (zs : List ℤ) (es : List ℕ) (n e : ℕ) (z : Square) → length (z .cells) ≡ 25 → length (withLandings zs es n e z .cells) ≡ 25
-unfolding withLandings withLanding
-landings-length zs es zero e z h = h
-landings-length zs es (suc n) e z h = landings-length zs es n (suc e) _ (listOf-length _ 25 0)
-
-module _ (k : Kept) where
-  pub below-length : (n : ℕ) → length (enabledBelow k n) ≡ length (k .zones)
-  unfolding enabledBelow
-  below-length zero = refl
-  below-length (suc n) = put-length (enabledSquare k n) (guardsAt + n) (enabledBelow k n) ∙ below-length n
-
-  -- every slot but those of the first n guards keeps its zone
-  below-apart : (n q : ℕ) → ((a : ℕ) → a < n → q ≢ (guardsAt + a)) → zoneAt (enabledBelow k n) q ≡ zoneAt (k .zones) q
-  unfolding enabledBelow
-  below-apart zero q h = refl
-  below-apart (suc n) q h =
-      put-apart (enabledSquare k n) (guardsAt + n) (enabledBelow k n) q (h n (omega arith)) ∙ below-apart n q (λ a l. h a (omega arith))
-
-  invariant-below : (n l : ℕ) → l < 16 → zoneAt (enabledBelow k n) l ≡ zoneAt (k .zones) l
-  invariant-below n l h = below-apart n l (λ a m e. omega arith)
-
-  guard-below : (n : ℕ) → zoneAt (enabledBelow k n) (guardsAt + n) ≡ zoneAt (k .zones) (guardsAt + n)
-  guard-below n = below-apart n (guardsAt + n) (λ a m e. omega arith)
-
-  -- in place of the guard of each of the first n actions stands what it asks
-  below-at : (n a : ℕ) → a < n → (guardsAt + n) * 25 ≤ length (k .zones) → zoneAt (enabledBelow k n) (guardsAt + a) ≡ enabledSquare k a
-  unfolding enabledBelow enabledSquare
-  below-at zero a l r = absurd (omega arith)
-  below-at (suc n) a l r = by (eq-or-lt-of-le (le-of-suc-le-suc l)) (λ m. below-at n a m (omega arith))
+  pub limited-at : (n l : ℕ) → l < n → n ≤ 16 → getD (limitedBelow zs n) l false ≡ not (inside? universe (zoneAt zs l))
+  unfolding limitedBelow
+  limited-at zero l h few = absurd (omega arith)
+  limited-at (suc n) l h few = by (eq-or-lt-of-le (le-of-suc-le-suc h)) (λ m. limited-at n l m (omega arith))
     where
-      by : (a ≡ n) ⊎ (a < n) → (a < n → zoneAt (enabledBelow k n) (guardsAt + a) ≡ enabledSquare k a) →
-          zoneAt (putAt (enabledSquare k n) (guardsAt + n) (enabledBelow k n)) (guardsAt + a) ≡ enabledSquare k a
-      by (inl e) rest =
-          let s = below-length n in
-          rw e
-          (put-here (enabledSquare k n) (guardsAt + n) (enabledBelow k n)
-          (landings-length (k .zones) (k .edges) _ _ (zoneAt (k .zones) (guardsAt + n)) (zone-length (k .zones) (guardsAt + n))) (omega arith))
-      by (inr m) rest = put-apart (enabledSquare k n) (guardsAt + n) (enabledBelow k n) (guardsAt + a) (λ e. omega arith) ∙ rest m
+      flag : Bool
+      flag = not (inside? universe (zoneAt zs n))
 
-  -- what the edges of the action a come to is what it asks, though the guards before it are replaced already
-  pub action-done : (a : ℕ) {zs : List ℤ} {guard zone : Square} → zs ≡ enabledBelow k a → guard ≡ zoneAt zs (guardsAt + a) →
-      withLandings zs (k .edges) (getD (k .index .edges) (a + 1) 0 - getD (k .index .edges) a 0) (getD (k .index .edges) a 0) guard ≡ zone →
-      zone ≡ enabledSquare k a
-  unfolding enabledSquare
-  action-done a {zs} {guard} e g h =
-      let first : ℕ = getD (k .index .edges) a 0 in
-      let n : ℕ = getD (k .index .edges) (suc a) 0 - first in
-      let q : guard ≡ zoneAt (k .zones) (guardsAt + a) = g ∙ ap (λ (ys : List ℤ). zoneAt ys (guardsAt + a)) e ∙ guard-below a in
-      sym (rw (add-one a, e) at h) ∙ landings-same (enabledBelow k a) (k .zones) (k .edges) (invariant-below a) n first guard
-      ∙ ap (withLandings (k .zones) (k .edges) n first) q
+      by : (l ≡ n) ⊎ (l < n) → (l < n → getD (limitedBelow zs n) l false ≡ not (inside? universe (zoneAt zs l))) →
+          getD (set (limitedBelow zs n) n flag) l false ≡ not (inside? universe (zoneAt zs l))
+      by (inl e) rest = let size = limited-length n in rw e (getD-set-same (limitedBelow zs n) n flag false (omega arith))
+      by (inr m) rest = getD-set-other (limitedBelow zs n) n l flag false (λ e. omega arith) ∙ rest m
 
-  pub action-put : (a : ℕ) {zs : List ℤ} {zone : Square} → zs ≡ enabledBelow k a → zone ≡ enabledSquare k a →
-      putAt zone (guardsAt + a) zs ≡ enabledBelow k (a + 1)
-  unfolding enabledBelow
-  action-put a e f = rw (add-one a, e, f)
+  -- one location more
+  pub limited-go : (n : ℕ) {flags : List Bool} {flag : Bool} → flags ≡ limitedBelow zs n → flag ≡ not (inside? universe (zoneAt zs n)) →
+      set flags n flag ≡ limitedBelow zs (n + 1)
+  unfolding limitedBelow
+  limited-go n e f = rw (add-one n, e, f)
 
-  pub actions-done : (a : ℕ) → a ≡ actionCount (k .index) → enabledBelow k a ≡ enabledKeys k
-  unfolding enabledKeys
-  actions-done a e = rw e
+-- ---- the test whether an edge's landings, their table y, lie in the invariant of its location l
 
-  -- ---- the keys that are left
-  pub enabled-length : length (enabledKeys k) ≡ length (k .zones)
-  unfolding enabledKeys
-  enabled-length = below-length (actionCount (k .index))
+module _ (zs : List ℤ) (limited : List Bool) (y : Square) {n l : ℕ} (e : n ≡ l) where
+  pub lands-anywhere : getD limited n false ≡ false → landsInside? zs limited l y ≡ true
+  unfolding landsInside?
+  lands-anywhere f = rw (← e, f)
 
-  pub enabled-invariant : (l : ℕ) → l < 16 → zoneAt (enabledKeys k) l ≡ zoneAt (k .zones) l
-  unfolding enabledKeys
-  enabled-invariant l h = invariant-below (actionCount (k .index)) l h
+  pub lands-tested : getD limited n false ≡ true → {i : Square} {b : Bool} → i ≡ zoneAt zs n → b ≡ inside? y i → landsInside? zs limited l y ≡ b
+  unfolding landsInside?
+  lands-tested t ei eb = rw (← e, t, ← ei, ← eb)
 
-  pub enabled-at : actionCount (k .index) ≤ 32 → zoneCount * 25 ≤ length (k .zones) → (a : ℕ) → a < actionCount (k .index) →
-      zoneAt (enabledKeys k) (guardsAt + a) ≡ enabledSquare k a
-  unfolding enabledKeys
-  enabled-at few room a l = below-at (actionCount (k .index)) a l (omega arith)
+-- ---- what the code works out of an edge, step by step: the word w, its successor s, whose entry is N, at the place p
+
+module _ (reach : Square) (empty : Bool) (w : ℕ) (zs : List ℤ) (limited : List Bool) (whole : ℕ) (k : Kept) (s p : ℕ) {N : NodeEntry}
+    (eN : N ≡ entryAt (k .nodes) s) where
+  abbrev goal : Outcome
+  goal = successorOutcome reach empty w zs limited whole k s p
+
+  pub wrong-location : (N .location ≡ landsAt w → ⊥) → _≡_ {A = Outcome} (record { finding = finding.WrongLocation p; share = 0 }) goal
+  unfolding successorOutcome
+  wrong-location un = rw (← eN, ne-eqb _ _ un)
+
+  module _ (at : N .location ≡ landsAt w) {f : Finding} {share : ℕ} where
+    pub nothing-lands : empty ≡ true → f ≡ finding.None → share ≡ weightOf w * N .value → _≡_ {A = Outcome} (record { finding = f; share = share }) goal
+    unfolding successorOutcome
+    nothing-lands e ef es = rw (ef, es, ← eN, eq-eqb _ _ at, e)
+
+    module _ (filled : empty ≡ false) {y : Square} (ey : y ≡ resetSquare (maskOf w) reach) where
+      pub lands-inside :
+          landsInside? zs limited (landsAt w) y ≡ true → f ≡ heldFinding y false (zoneAt (k .zones) s) p → share ≡ weightOf w * N .value →
+          _≡_ {A = Outcome} (record { finding = f; share = share }) goal
+      unfolding successorOutcome landingsOutcome
+      lands-inside i ef es = rw (ef, es, ← eN, eq-eqb _ _ at, filled, ← ey, i)
+
+      pub lands-outside :
+          {part : Square} {none : Bool} → landsInside? zs limited (landsAt w) y ≡ false → part ≡ common y (zoneAt zs (landsAt w)) →
+          none ≡ empty? part → f ≡ heldFinding part none (zoneAt (k .zones) s) p → share ≡ weightOf w * whole →
+          _≡_ {A = Outcome} (record { finding = f; share = share }) goal
+      unfolding successorOutcome landingsOutcome
+      lands-outside o ep en ef es = rw (ef, en, ep, es, ← eN, eq-eqb _ _ at, filled, ← ey, o)

@@ -1,10 +1,10 @@
 -- The laws of `judge`, none of which uses a later one: the reach, the parts of a cut, the walk, the verdict; proofs of functions stand in folders of their own.
 pub mod FindingLaws
-pub mod LandingLaws
+pub mod PartLaws
 pub mod RowReach
 pub mod ReachSizes
 pub mod RowLaws
-pub mod PartLaws
+pub mod LandingLaws
 pub mod WalkLaws
 pub mod Walking
 pub mod WalkRanges

@@ -15,7 +15,8 @@ use Rattle.zone.specs.Parts.{holdingSquare, restSquare}
 use Rattle.zone.specs.Stores.{zoneAt}
 use Rattle.zone.specs.declared.zones.Zone.{Zone as Square}
 use Rattle.zone.proofs.Sizes.{tightens-fewer, tightens-withBound}
-use Rattle.zone.proofs.Regions.{Stands, inBoth, stands-same, stands-withBound, lies-yes, lies-no}
+use Rattle.zone.proofs.Regions.{Stands, inBoth, stands-same, stands-withBound}
+use Rattle.zone.proofs.Spans.{Spans, spans, lies-yes, lies-no}
 use Rattle.zone.proofs.PartLaws.{stands-rest, tightens-rest}
 use Rattle.model.specs.Indexed.{withBounds}
 use Rattle.model.proofs.ZoneLaws.{GoodBound, GoodZone, stands-bounds, tightens-bounds}
@@ -36,11 +37,13 @@ pub record Decides (P : Region) (y : Square) : Type 0 where
   pub pass : (S : Zone) → GoodZone S → (empty? y || inside? y (withBounds S universe)) ≡ true → Inside P (within S)
   pub fail : (S : Zone) → GoodZone S → (empty? y || inside? y (withBounds S universe)) ≡ false → Inside P (within S) → ⊥
 
-decides : {P Q : Region} {y : Square} → Tightens 3 y → Stands (inBoth P Q) y → Decides (inBoth Q P) (tightened y)
-decides {P} {Q} {y} t s =
-    let fits = tightens-fewer 1 3 y (omega arith) t in
-    let stands : Stands (inBoth Q P) y = stands-same (λ k v p. (p .1, p .0)) (λ k v p. (p .1, p .0)) s in
-    record { pass = λ S g. lies-yes fits stands (stands-bounds S g); fail = λ S g. lies-no fits stands (stands-bounds S g) }
+pub decides : {P : Region} {y : Square} → Tightens 1 y → Spans P y → Decides P (tightened y)
+decides t s = record { pass = λ S g. lies-yes t s (stands-bounds S g); fail = λ S g. lies-no t s (stands-bounds S g) }
+
+-- the same of a table that has a bound more, whose region is said with that bound behind
+with-bound : {P Q : Region} {y : Square} → Tightens 3 y → Stands (inBoth P Q) y → Decides (inBoth Q P) (tightened y)
+with-bound {y = y} t s =
+    decides (tightens-fewer 1 3 y (omega arith) t) (spans (stands-same (λ k v p. (p .1, p .0)) (λ k v p. (p .1, p .0)) s))
 
 -- a node with a good zone, cut by the bound of a word
 module _ (N : Node) (z : GoodZone (N .zone)) (w : ℕ) (g : GoodBound (boundOf w)) where
@@ -50,13 +53,13 @@ module _ (N : Node) (z : GoodZone (N .zone)) (w : ℕ) (g : GoodBound (boundOf w
   pub holding-decides : Decides (holdingPart N (boundOf w)) (holdingSquare w zone)
   unfolding holdingPart holdingSquare withWord
   holding-decides =
-      decides (tightens-withBound (boundOf w) zone (g .small) (tightens-bounds (N .zone) z))
+      with-bound (tightens-withBound (boundOf w) zone (g .small) (tightens-bounds (N .zone) z))
       (stands-withBound (boundOf w) (g .first) (g .second) (g .small) (stands-bounds (N .zone) z))
 
   pub rest-decides : Decides (restPart N (boundOf w)) (restSquare w zone)
   unfolding restPart restSquare
   rest-decides =
-      decides (tightens-rest (boundOf w) zone (g .small) (tightens-bounds (N .zone) z))
+      with-bound (tightens-rest (boundOf w) zone (g .small) (tightens-bounds (N .zone) z))
       (stands-rest (boundOf w) (g .first) (g .second) (g .small) (stands-bounds (N .zone) z))
 
 -- ---- what the code works out, step by step

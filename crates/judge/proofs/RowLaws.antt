@@ -1,5 +1,5 @@
 -- The words from a place on, nodes by their numbers, and the actions of a location with theirs, as the walk meets them. Assumes nothing.
-use Prim.Native.Nat.{ℕ, zero, suc, _+_, _-_, _≤_, _<_}
+use Prim.Native.Nat.{ℕ, zero, suc, _+_, _-_, _<_}
 use mathlib.Core.Path.{_≡_, sym, ap, subst, _∙_}
 use mathlib.Core.List.{List, [], _∷_}
 use native.Mathlib.Omega.{arith}
@@ -9,7 +9,7 @@ use lib.Seq.{getD-drop, drop-drop}
 use Rattle.model.specs.Model.{Action, Model}
 use Rattle.model.specs.States.{locationAt}
 use Rattle.model.specs.Index.{Kept as ModelKept}
-use Rattle.model.specs.Indexed.{Each, ActionAt, LocationAt, Indexed}
+use Rattle.model.specs.Indexed.{Each, ActionAt, Indexed}
 use Rattle.model.proofs.ZoneLaws.{All, empty, more}
 use Rattle.model.proofs.GoodModel.{GoodAction, GoodModel}
 use Rattle.model.proofs.WellFormed.{FormedAction, WellFormed}
@@ -20,7 +20,6 @@ use Rattle.table.specs.Index.{Kept}
 use Rattle.table.specs.Indexed.{NodeIs, TableIndexed}
 use Rattle.table.specs.declared.read.TableRead.{TableRead}
 use Rattle.table.proofs.Shape.{NodeShaped, Shaped}
-use Rattle.judge.specs.Reaching.{actionCount, ActionsFit}
 
 -- ---- the words from a place on
 
@@ -58,45 +57,16 @@ pub record ActionIs (M : Model) (m : ModelKept) (a : ℕ) (A : Action) : Type 0 
   pub at : ActionAt m a A
   pub good : GoodAction A
   pub formed : FormedAction M A
-  pub there : a < actionCount (m .index)
-  pub limit : a < 32
 
 module _ (M : Model) (m : ModelKept) (x : Indexed M m) (good : GoodModel M) (formed : WellFormed M) where
-  -- the actions of a location end where those of the model do, or before
-  ends-by : (n l : ℕ) → suc l + n ≡ length (M .locations) → getD (m .index .actions) (suc l) 0 ≤ actionCount (m .index)
-  ends-by zero l e = let q : suc l ≡ m .index .locations = omega (arith, e, x .locations) in rw q (omega arith)
-  ends-by (suc n) l e =
-      let next = location-at x (suc l) (omega arith) .ends in
-      let rest = ends-by n (suc l) (omega arith) in
-      omega arith
-
-  -- there are at most 32
-  pub actions-fit : ActionsFit (m .index)
-  actions-fit = record {
-    locations = x .limit;
-    actions =
-        let some = formed .start in
-        let last : ℕ = length (M .locations) - 1 in
-        let q : m .index .locations ≡ suc last = omega (arith, some, x .locations) in
-        rw q (location-at x last (omega (arith, some)) .limit);
-    edges = record { at = x .edgeLimits };
-  }
-
-  actions-from :
-      (As : List Action) (a : ℕ) → Each (ActionAt m) a As → All GoodAction As → All (FormedAction M) As → a + length As ≤ actionCount (m .index) →
-      Each (ActionIs M m) a As
+  actions-from : (As : List Action) (a : ℕ) → Each (ActionAt m) a As → All GoodAction As → All (FormedAction M) As → Each (ActionIs M m) a As
   unfolding Each
-  actions-from [] a e empty empty l = tt
-  actions-from (A ∷ As) a e (more g gs) (more f fs) l =
-      let few = actions-fit .actions in
-      (record { at = e .0; good = g; formed = f; there = omega arith; limit = omega arith }, actions-from As (suc a) (e .1) gs fs (omega arith))
+  actions-from [] a e empty empty = tt
+  actions-from (A ∷ As) a e (more g gs) (more f fs) = (record { at = e .0; good = g; formed = f }, actions-from As (suc a) (e .1) gs fs)
 
   pub actions-at : (l : ℕ) → l < length (M .locations) → Each (ActionIs M m) (getD (m .index .actions) l 0) (locationAt M l .actions)
   actions-at l h =
-      let L : LocationAt m l (locationAt M l) = location-at x l h in
-      let all = ends-by (length (M .locations) - suc l) l (omega arith) in
-      actions-from (locationAt M l .actions) (getD (m .index .actions) l 0) (L .actions) (good .guards l) (formed .actions l)
-      (omega (arith, L .ends, all))
+      actions-from (locationAt M l .actions) (getD (m .index .actions) l 0) (location-at x l h .actions) (good .guards l) (formed .actions l)
 
   -- how many they are
   pub actions-count : (l : ℕ) → l < length (M .locations) →

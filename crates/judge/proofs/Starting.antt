@@ -7,7 +7,8 @@ use Rattle.zone.specs.Scale.{Valuation, Zone, within, Inside}
 use Rattle.zone.specs.Squares.{universe, met, tightened, empty?, inside?, Tightens}
 use Rattle.zone.specs.Stores.{zoneAt}
 use Rattle.zone.specs.declared.zones.Zone.{Zone as Square}
-use Rattle.zone.proofs.Regions.{Stands, inside-yes, inside-no}
+use Rattle.zone.proofs.Regions.{Stands}
+use Rattle.zone.proofs.Spans.{Spans, spans, spans-tightened, tight as needed, inside-yes, inside-no}
 use Rattle.model.specs.Model.{Model}
 use Rattle.model.specs.States.{locationAt, HasStart}
 use Rattle.model.specs.Index.{Kept, startSquare}
@@ -33,6 +34,9 @@ module _ {M : Model} {m : Kept} {y : Square} (x : Indexed M m) (good : GoodModel
 
   fits : Tightens 1 bounds
   fits = start-fits M (m .zones) good invariant (x .startBounds)
+
+  spanned : Spans (startRegion M) (tightened bounds)
+  spanned = spans-tightened fits (spans stands)
 
   initial : y ≡ startSquare (M .start) (m .zones)
   initial = i ∙ ap (λ n. startSquare n (m .zones)) (x .start)
@@ -61,10 +65,10 @@ module _ {M : Model} {m : Kept} {y : Square} (x : Indexed M m) (good : GoodModel
     pub start-inside-yes : inside? y (withBounds S universe) ≡ true → Inside (startValuations M) (within S)
     start-inside-yes e = record {
       at = λ k k₁ v p.
-          inside-yes fits stands (stands-bounds S s) (sym (ap (λ z. inside? z (withBounds S universe)) tight) ∙ e) .at k k₁ v (starts-in k v p);
+          inside-yes spanned (stands-bounds S s) (sym (ap (λ z. inside? z (withBounds S universe)) tight) ∙ e) .at k k₁ v (starts-in k v p);
     }
 
     pub start-inside-no : inside? y (withBounds S universe) ≡ false → Inside (startValuations M) (within S) → ⊥
     start-inside-no e q =
-        inside-no fits stands (stands-bounds S s) (sym (ap empty? tight) ∙ filled) (sym (ap (λ z. inside? z (withBounds S universe)) tight) ∙ e)
-        (record { at = λ k k₁ v p. q .at k k₁ v (in-starts k v p) })
+        inside-no spanned (stands-bounds S s) (needed fits (spans stands) (sym (ap empty? tight) ∙ filled))
+        (sym (ap (λ z. inside? z (withBounds S universe)) tight) ∙ e) (record { at = λ k k₁ v p. q .at k k₁ v (in-starts k v p) })

@@ -1,31 +1,33 @@
 -- The walk decides the checks 15 to 19, and 51 to 53 of cuts. Assumes nothing.
 use Prim.Native.Nat.{ℕ, suc, _+_, _-_, _*_, _≤_, _<_}
-use mathlib.Core.Path.{_≡_, refl, sym, ap, ap₂}
-use mathlib.Core.Logic.{inl, inr}
-use mathlib.Core.Bool.{Bool, true, false, cond, _&&_, _||_}
+use mathlib.Core.Path.{_≡_, refl, sym, ap, ap₂, _∙_}
+use mathlib.Core.Logic.{_↔_, inl, inr}
+use mathlib.Core.Bool.{Bool, true, false, not, cond, _&&_, _||_}
 use mathlib.Core.List.{List, [], _∷_, _++_}
 use native.Mathlib.Omega.{arith}
 use borrow.Author.Tests.{eqb-true, eqb-false, eq-eqb, leb-true, leb-false, le-leb, ltb-true, ltb-false}
 use lib.Dec.{eqb, leb, ltb}
 use lib.ListN.{getD, length, drop}
-use Rattle.zone.specs.Scale.{Zone, Region, within, Empty, Inside}
+use Rattle.zone.specs.Scale.{Zone, in?, Region, within, Empty, Inside}
 use Rattle.zone.specs.Moves.{ResetOf}
 use Rattle.zone.specs.Checks.{refused, Check, check, First}
 use Rattle.zone.specs.Squares.{universe, resetSquare, empty?, inside?}
 use Rattle.zone.specs.Stores.{zoneAt}
 use Rattle.zone.specs.declared.zones.Zone.{Zone as Square}
-use Rattle.zone.proofs.Bools.{true-false, left-true, right-true}
+use Rattle.zone.proofs.Bools.{true-false, left-true, right-true, or-false, untrue}
+use Rattle.zone.proofs.Regions.{inBoth}
+use Rattle.zone.proofs.Spans.{Beyond}
 use Rattle.zone.proofs.CheckLaws.{first-join, first-before, first-holds}
 use Rattle.model.specs.TableKinds.{blocked, cut, isTable}
 use Rattle.model.specs.Fields.{maskOf, landsAt, weightOf}
 use Rattle.model.specs.Scan.{guardsAt}
 use Rattle.model.specs.Model.{Edge, Action, Location, Model, edgeOf}
 use Rattle.model.specs.States.{locationAt}
-use Rattle.model.specs.Index.{Kept as ModelKept, StoresFit as ModelStoresFit}
+use Rattle.model.specs.Index.{Kept as ModelKept}
 use Rattle.model.specs.Indexed.{Each, withBounds, EdgeAt, LocationAt, Indexed}
 use Rattle.model.proofs.ZoneLaws.{All, empty, more, GoodZone}
 use Rattle.model.proofs.GoodModel.{GoodModel}
-use Rattle.model.proofs.WellFormed.{WellFormed}
+use Rattle.model.proofs.WellFormed.{FormedEdge, WellFormed}
 use Rattle.model.proofs.IndexLaws.{location-at}
 use Rattle.table.specs.Fields.{numberOf}
 use Rattle.table.specs.Table.{Successor, blockedRow, successorRow, rowsBody, cutBody, Node, Table, nodeAt}
@@ -36,27 +38,30 @@ use Rattle.table.specs.Indexed.{NodeIs, TableIndexed}
 use Rattle.table.specs.declared.nodes.NodeEntry.{NodeEntry}
 use Rattle.table.specs.declared.read.TableRead.{TableRead}
 use Rattle.table.proofs.Shape.{RowStands, RowsStand, CutStands, BodyStands, NodeShaped, Shaped}
-use Rattle.acceptance.specs.Acceptance.{Reach, HasLocation, HoldsReach, worth, rowSum, Matches}
+use Rattle.acceptance.specs.Acceptance.{Reach, HasLocation, landings, landingsInside, HoldsLandings, CanLandOutside, Worth, SumOf, SumFits, Matches}
 use Rattle.acceptance.specs.Judging.{successorChecks, rowChecks, rowsChecks, partChecks, cutChecks, bodyChecks, nodeChecks, nodesChecks}
-use Rattle.judge.specs.Reaching.{enabledKept, waitedSquare, reachSquare}
+use Rattle.acceptance.proofs.SumLaws.{inside-cannot, sum-one}
+use Rattle.judge.specs.Reaching.{common, waitedSquare, limitedBelow, landsInside?}
+use Rattle.judge.specs.Landing.{heldFinding, landingsOutcome, successorOutcome}
 use Rattle.judge.specs.Findings.{orElse, findingAnswer}
 use Rattle.judge.specs.Cutting.{partFinding, cutFinding}
-use Rattle.judge.specs.Walk.{successorFinding, successorOutcome, successorsFrom, rowsFrom, rowsFinding, nodeFinding, nodesFrom, walked}
+use Rattle.judge.specs.Walk.{successorsFrom, rowsFrom, rowsFinding, nodeFinding, nodesFrom, walked}
 use Rattle.judge.specs.declared.findings.Finding.{Finding}
 use Rattle.judge.specs.declared.findings.Finding.the-variants as finding
-use Rattle.judge.proofs.RowLaws.{front, beyond, behind, node-at, shaped-at, ActionIs, actions-fit, actions-at, actions-count, edges-at}
-use Rattle.judge.proofs.LandingLaws.{enabled-invariant, enabled-at}
+use Rattle.judge.specs.declared.landing.Outcome.{Outcome}
+use Rattle.judge.proofs.RowLaws.{front, beyond, behind, node-at, shaped-at, ActionIs, actions-at, actions-count, edges-at}
+use Rattle.judge.proofs.LandingLaws.{limited-at, unlimited}
 use Rattle.judge.proofs.PartLaws.{Decides, holding-decides, rest-decides}
-use Rattle.judge.proofs.RowReach.{blocked-yes, blocked-no, onward-yes, onward-no}
+use Rattle.judge.proofs.RowReach.{blocked-yes, blocked-no, onward-yes, onward-no, part-decides}
 
 -- what checks in an order find: the first that does not hold
 record Finds (cs : List Check) (f : Finding) : Type 0 where
   says : First cs (λ (_ : Unit {0}). Unit {0}) (findingAnswer f)
 
--- checks in front of others find first
-finds-first : (cs ds : List Check) (f g : Finding) → Finds cs f → Finds ds g → Finds (cs ++ ds) (orElse f g)
+-- checks in front of others find first; the others are asked where those find nothing
+finds-first : (cs ds : List Check) (f g : Finding) → Finds cs f → (f ≡ finding.None → Finds ds g) → Finds (cs ++ ds) (orElse f g)
 unfolding orElse findingAnswer
-finds-first cs ds finding.None g h i = record { says = first-join cs ds _ _ (first-holds cs _ tt (h .says) .0) (i .says) }
+finds-first cs ds finding.None g h i = record { says = first-join cs ds _ _ (first-holds cs _ tt (h .says) .0) (i refl .says) }
 finds-first cs ds (finding.BadTargetValue p) g h i = record { says = first-before cs ds _ _ 15 p (h .says) }
 finds-first cs ds (finding.NotBlocked p) g h i = record { says = first-before cs ds _ _ 16 p (h .says) }
 finds-first cs ds (finding.WrongLocation p) g h i = record { says = first-before cs ds _ _ 17 p (h .says) }
@@ -65,6 +70,10 @@ finds-first cs ds (finding.SumTooLarge p) g h i = record { says = first-before c
 finds-first cs ds (finding.PartNotAbove p) g h i = record { says = first-before cs ds _ _ 51 p (h .says) }
 finds-first cs ds (finding.PartMismatch p) g h i = record { says = first-before cs ds _ _ 52 p (h .says) }
 finds-first cs ds (finding.PartNotInside p) g h i = record { says = first-before cs ds _ _ 53 p (h .says) }
+
+-- a wrong location is found
+located : (p : ℕ) → finding.WrongLocation p ≡ finding.None → ⊥
+located p e = let z : _≡_ {A = ℕ} 0 1 = cc in omega arith
 
 -- no check finds nothing
 none-found : Finds [] finding.None
@@ -97,10 +106,12 @@ number-next k (w ∷ ws) = refl
 record Reached (M : Model) (N : Node) (A : Action) (z : Square) : Type 0 where
   blocked-pass : empty? z ≡ true → Empty (Reach M N A)
   blocked-fail : empty? z ≡ false → Empty (Reach M N A) → ⊥
-  onward-pass : (mask : ℕ) (S : Zone) → GoodZone S → (empty? z || inside? (resetSquare mask z) (withBounds S universe)) ≡ true →
+  onward-pass : empty? z ≡ false → (mask : ℕ) (S : Zone) → GoodZone S → inside? (resetSquare mask z) (withBounds S universe) ≡ true →
       Inside (ResetOf mask (Reach M N A)) (within S)
-  onward-fail : (mask : ℕ) (S : Zone) → GoodZone S → (empty? z || inside? (resetSquare mask z) (withBounds S universe)) ≡ false →
-      Inside (ResetOf mask (Reach M N A)) (within S) → ⊥
+  onward-fail : empty? z ≡ false → (mask : ℕ) (S : Zone) → GoodZone S → inside? (resetSquare mask z) (withBounds S universe) ≡ false →
+      Beyond (ResetOf mask (Reach M N A)) (within S)
+  part : empty? z ≡ false → (mask : ℕ) (S : Zone) → GoodZone S →
+      Decides (inBoth (ResetOf mask (Reach M N A)) (within S)) (common (resetSquare mask z) (withBounds S universe))
 
 -- what is kept of a node
 abbrev entryFor : Node → NodeEntry
@@ -124,58 +135,161 @@ rows-split A As at ws = by (isTable blocked (getD ws 0 0))
     by false = refl
 
 module _ (M : Model) (words : List ℕ) (m : ModelKept) (t : TableRead) (k : Kept) (x : Indexed M m) (good : GoodModel M) (formed : WellFormed M)
-    (W : Table) (i : TableIndexed W t k) (sh : Shaped M words W) (room : ModelStoresFit (m .edges) (m .zones)) where
-  -- the actions are enabled
-  abbrev enabled : ModelKept
-  enabled = enabledKept m
+    (W : Table) (i : TableIndexed W t k) (sh : Shaped M words W) where
+  -- of each location, whether its invariant leaves a valuation out
+  abbrev limited : List Bool
+  limited = limitedBelow (m .zones) (m .index .locations)
 
   -- ---- the successors of a row
   module _ (N : Node) (A : Action) (reach : Square) (z : Reached M N A reach) where
-    successor-found :
-        (w s p : ℕ) (E : Edge) → edgeOf w ≡ E → s < length (W .nodes) →
-        let S : Successor = record { node = s; place = p } in
-        Finds (check 17 p (HasLocation W E S) ∷ check 18 p (HoldsReach M W N A E S) ∷ [])
-        (successorOutcome reach (empty? reach) w k s p .finding)
-    unfolding successorFinding successorOutcome findingAnswer
-    successor-found w s p E e l =
-        let to : landsAt w ≡ E .to = ap (λ (E : Edge). E .to) e in
-        let mask : maskOf w ≡ E .mask = ap (λ (E : Edge). E .mask) e in
-        let S : Zone = nodeAt W s .zone in
-        rw (node-at i s l .location, node-at i s l .zone, to, mask)
-        (decides (eqb (nodeAt W s .location) (E .to)) (finding.WrongLocation p) _ (eqb-true (nodeAt W s .location) (E .to))
-        (eqb-false (nodeAt W s .location) (E .to)) refl
-        (decides (empty? reach || inside? (resetSquare (E .mask) reach) (withBounds S universe)) (finding.NotInside p) _
-        (z .onward-pass (E .mask) S (shaped-at sh s l .zone)) (z .onward-fail (E .mask) S (shaped-at sh s l .zone)) refl none-found))
+    -- what an edge with its successor comes to: the checks 17 and 18 and, where both hold, what it has in the sum
+    record Comes (E : Edge) (S : Successor) (o : Outcome) : Type 0 where
+      finds : Finds (check 17 (S .place) (HasLocation W E S) ∷ check 18 (S .place) (HoldsLandings M W N A E S) ∷ []) (o .finding)
+      adds : o .finding ≡ finding.None → (y : ℕ) × Worth M W N A E S y × (o .share ≡ E .weight * y)
 
-    share-is : (b : Bool) (w s p : ℕ) (E : Edge) → edgeOf w ≡ E → s < length (W .nodes) →
-        successorOutcome reach b w k s p .share ≡ E .weight * nodeAt W s .value
-    unfolding successorOutcome
-    share-is b w s p E e l =
-        let weight : weightOf w ≡ E .weight = ap (λ (E : Edge). E .weight) e in
-        rw (weight, node-at i s l .value)
+    -- an edge that lands at a location that exists
+    module _ (E : Edge) (f : FormedEdge M E) where
+      abbrev invariant : Zone
+      invariant = locationAt M (E .to) .invariant
 
-    -- the sum so far comes to the total with what the edges add
+      abbrev invariantTable : Square
+      invariantTable = withBounds invariant universe
+
+      table-is : zoneAt (m .zones) (E .to) ≡ invariantTable
+      table-is = location-at x (E .to) (f .to) .invariant
+
+      good-invariant : GoodZone invariant
+      good-invariant = good .invariants (E .to)
+
+      abbrev landed : Square
+      landed = resetSquare (E .mask) reach
+
+      module _ (filled : empty? reach ≡ false) where
+        lands-pass : landsInside? (m .zones) limited (E .to) landed ≡ true → Inside (landings M N A E) (within invariant)
+        unfolding landsInside?
+        lands-pass h =
+            by (inside? universe (zoneAt (m .zones) (E .to))) refl (rw (limited-at (m .zones) (m .index .locations) (E .to) there (x .limit)) at h)
+          where
+            there : E .to < m .index .locations
+            there = omega (arith, f .to, x .locations)
+
+            by : (c : Bool) → inside? universe (zoneAt (m .zones) (E .to)) ≡ c → (not (not c) || inside? landed (zoneAt (m .zones) (E .to))) ≡ true →
+                Inside (landings M N A E) (within invariant)
+            by true e h = record { at = λ k k₁ v p. unlimited invariant good-invariant (rw table-is at e) k k₁ v }
+            by false e h = z .onward-pass filled (E .mask) invariant good-invariant (rw table-is at h)
+
+        lands-fail : landsInside? (m .zones) limited (E .to) landed ≡ false → CanLandOutside M N A E
+        unfolding landsInside? within
+        lands-fail h =
+            let p : Beyond (landings M N A E) (within invariant) =
+            z .onward-fail filled (E .mask) invariant good-invariant (rw table-is at (or-false (not (getD limited (E .to) false)) _ h)) in
+            record {
+              scale = p .scale;
+              positive = p .positive;
+              valuation = p .valuation;
+              lands = p .holds;
+              outside = untrue (in? (p .scale) (p .valuation) invariant) (p .fails);
+            }
+
+      module _ (s p : ℕ) (l : s < length (W .nodes)) where
+        abbrev S : Successor
+        S = record { node = s; place = p }
+
+        abbrev zone : Zone
+        zone = nodeAt W s .zone
+
+        -- nothing lands
+        comes-empty : empty? reach ≡ true → nodeAt W s .location ≡ E .to → Comes E S (record { finding = finding.None; share = E .weight * nodeAt W s .value })
+        unfolding landingsInside findingAnswer
+        comes-empty e q = record {
+          finds = record {
+            says = inl (q, inl (record { at = λ k k₁ v h. absurd (z .blocked-pass e .at k k₁ (h .0 .before) (h .0 .was)) }, tt));
+          };
+          adds = λ _. (nodeAt W s .value, inr ((λ o. z .blocked-pass e .at (o .scale) (o .positive) (o .lands .before) (o .lands .was)), refl), refl);
+        }
+
+        -- every landing is inside
+        comes-inside : empty? reach ≡ false → nodeAt W s .location ≡ E .to → Inside (landings M N A E) (within invariant) →
+            Comes E S (record { finding = heldFinding landed false (withBounds zone universe) p; share = E .weight * nodeAt W s .value })
+        unfolding landingsInside heldFinding findingAnswer
+        comes-inside e q all = record {
+          finds = record {
+            says = inl (q, decides {c = check 18 p (HoldsLandings M W N A E S)} (inside? landed (withBounds zone universe)) (finding.NotInside p) _
+                (λ h. record { at = λ k k₁ v r. z .onward-pass e (E .mask) zone (shaped-at sh s l .zone) h .at k k₁ v (r .0) })
+                (λ h m. let b = z .onward-fail e (E .mask) zone (shaped-at sh s l .zone) h in
+                b .fails (m .at (b .scale) (b .positive) (b .valuation) (b .holds, all .at (b .scale) (b .positive) (b .valuation) (b .holds))))
+                refl none-found .says);
+          };
+          adds = λ _. (nodeAt W s .value, inr (inside-cannot M W N A E all, refl), refl);
+        }
+
+        -- some landing is outside
+        comes-outside : empty? reach ≡ false → nodeAt W s .location ≡ E .to → CanLandOutside M N A E →
+            let part : Square = common landed invariantTable in
+            Comes E S (record { finding = heldFinding part (empty? part) (withBounds zone universe) p; share = E .weight * t .whole })
+        unfolding landingsInside heldFinding findingAnswer
+        comes-outside e q can = record {
+          finds = record {
+            says = inl (q, decides _ (finding.NotInside p) _
+                (z .part e (E .mask) invariant good-invariant .pass zone (shaped-at sh s l .zone))
+                (z .part e (E .mask) invariant good-invariant .fail zone (shaped-at sh s l .zone)) refl none-found .says);
+          };
+          adds = λ _. (t .whole, inl (can, i .whole), refl);
+        }
+
+        comes : (w : ℕ) → edgeOf w ≡ E → Comes E S (successorOutcome reach (empty? reach) w (m .zones) limited (t .whole) k s p)
+        unfolding successorOutcome landingsOutcome findingAnswer
+        comes w e =
+            let to : landsAt w ≡ E .to = ap (λ (E : Edge). E .to) e in
+            let mask : maskOf w ≡ E .mask = ap (λ (E : Edge). E .mask) e in
+            let weight : weightOf w ≡ E .weight = ap (λ (E : Edge). E .weight) e in
+            rw (to, mask, weight, node-at i s l .location, node-at i s l .value, node-at i s l .zone)
+            (by (eqb (nodeAt W s .location) (E .to)) refl (empty? reach) refl (landsInside? (m .zones) limited (E .to) landed) refl)
+          where
+            part : Square
+            part = common landed (zoneAt (m .zones) (E .to))
+
+            by : (c : Bool) → eqb (nodeAt W s .location) (E .to) ≡ c → (d : Bool) → empty? reach ≡ d → (b : Bool) →
+                landsInside? (m .zones) limited (E .to) landed ≡ b →
+                Comes E S
+                (cond c
+                (cond d (record { finding = finding.None; share = E .weight * nodeAt W s .value })
+                (cond b (record { finding = heldFinding landed false (withBounds zone universe) p; share = E .weight * nodeAt W s .value })
+                (record { finding = heldFinding part (empty? part) (withBounds zone universe) p; share = E .weight * t .whole })))
+                (record { finding = finding.WrongLocation p; share = 0 }))
+            by true q true e b o = comes-empty e (eqb-true _ _ q)
+            by true q false e true o = comes-inside e (eqb-true _ _ q) (lands-pass e o)
+            by true q false e false o = rw table-is (comes-outside e (eqb-true _ _ q) (lands-fail e o))
+            by false q d e b o = record {
+              finds = record { says = inr (eqb-false _ _ q, refl) };
+              adds = λ f. absurd (located p f);
+            }
+
+    -- the sum so far with what the edges add is at most the limit exactly where Q holds
     successors-found :
-        (limit first total : ℕ) (Es : List Edge) (e at sum : ℕ) (ws : List ℕ) → Each (EdgeAt m) e Es → drop at words ≡ ws →
-        ((j : ℕ) → j < length Es → numberOf (getD ws j 0) < length (W .nodes)) →
-        total ≡ sum + rowSum W Es (successorsOf (length Es) at ws) →
-        Finds (successorChecks M W N A Es (successorsOf (length Es) at ws) ++ (check 19 first (total ≤ limit) ∷ []))
-        (successorsFrom words enabled k reach (empty? reach) limit first (length Es) e at sum)
-    unfolding Each successorChecks successorsOf successorsFrom worth rowSum findingAnswer
-    successors-found limit first total [] e at sum ws x d l q =
-        let same : total ≡ sum = omega arith in
-        rw (← same) (decides (leb total limit) (finding.SumTooLarge first) _ (leb-true total limit)
-        (λ b h. let g : limit < total = leb-false total limit b in omega arith) refl none-found)
-    successors-found limit first total (E ∷ Es) e at sum ws x d l q =
+        (limit first : ℕ) (Q : Type 0) (Es : List Edge) (e at sum : ℕ) (ws : List ℕ) → Each (EdgeAt m) e Es → All (FormedEdge M) Es →
+        drop at words ≡ ws → ((j : ℕ) → j < length Es → numberOf (getD ws j 0) < length (W .nodes)) →
+        ((r : ℕ) → SumOf M W N A Es (successorsOf (length Es) at ws) r → (sum + r ≤ limit) ↔ Q) →
+        Finds (successorChecks M W N A Es (successorsOf (length Es) at ws) ++ (check 19 first Q ∷ []))
+        (successorsFrom words (t .whole) m limited k reach (empty? reach) limit first (length Es) e at sum)
+    unfolding Each successorChecks successorsOf successorsFrom findingAnswer
+    successors-found limit first Q [] e at sum ws x empty d l q =
+        let all : sum + 0 ≡ sum = omega arith in
+        let same : (sum ≤ limit) ↔ Q = rw all at (q 0 refl) in
+        decides (leb sum limit) (finding.SumTooLarge first) _ (λ b. same .0 (leb-true sum limit b))
+        (λ b h. let g : limit < sum = leb-false sum limit b in let n : sum ≤ limit = same .1 h in omega arith) refl none-found
+    successors-found limit first Q (E ∷ Es) e at sum ws x (more f fs) d l q =
         let w : ℕ = getD (m .edges) e 0 in
         let s : ℕ = numberOf (getD ws 0 0) in
-        let here : s < length (W .nodes) = l 0 (omega arith) in
-        let a : ℕ = successorOutcome reach (empty? reach) w k s at .share in
-        let same : a ≡ E .weight * nodeAt W s .value = share-is (empty? reach) w s at E (x .0 .reads) here in
-        let rest =
-        successors-found limit first total Es (suc e) (suc at) (sum + a) (drop 1 ws) (x .1) (next at words ws d)
-        (λ j h. rw (number-next j ws) (l (suc j) (omega arith))) (omega arith) in
-        rw (front at words ws d) (finds-first (_ ∷ _ ∷ []) _ _ _ (successor-found w s at E (x .0 .reads) here) rest)
+        let c = comes E f s at (l 0 (omega arith)) w (x .0 .reads) in
+        let share : ℕ = successorOutcome reach (empty? reach) w (m .zones) limited (t .whole) k s at .share in
+        rw (front at words ws d) (finds-first (_ ∷ _ ∷ []) _ _ _ (c .finds) (λ none.
+        let a = c .adds none in
+        successors-found limit first Q Es (suc e) (suc at) (sum + share) (drop 1 ws) (x .1) fs (next at words ws d)
+        (λ j h. rw (number-next j ws) (l (suc j) (omega arith)))
+        (λ r o.
+        let plus : sum + share + r ≡ sum + (E .weight * a .0 + r) = omega (arith, a .2) in
+        rw plus (q (E .weight * a .0 + r) (a .0, r, a .1, o, refl)))))
 
   -- ---- the rows of a node
   module _ (N : Node) (g : NodeShaped M W words N) where
@@ -183,22 +297,21 @@ module _ (M : Model) (words : List ℕ) (m : ModelKept) (t : TableRead) (k : Kep
     waited = waitedSquare (withBounds (N .zone) universe) (zoneAt (m .zones) (N .location))
 
     abbrev rowReach : ℕ → Square
-    rowReach a = reachSquare waited (zoneAt (enabled .zones) (guardsAt + a))
+    rowReach a = common waited (zoneAt (m .zones) (guardsAt + a))
 
     reached : (a : ℕ) (A : Action) → ActionIs M m a A → Reached M N A (rowReach a)
-    reached a A y =
-        let f = y .formed .edges in
-        rw (enabled-at m (actions-fit M m x good formed .actions) (room .zones) a (y .there)) (record {
-          blocked-pass = blocked-yes x good N (g .exists) (g .zone) (y .at) (y .good) f;
-          blocked-fail = blocked-no x good N (g .exists) (g .zone) (y .at) (y .good) f;
-          onward-pass = onward-yes x good N (g .exists) (g .zone) (y .at) (y .good) f;
-          onward-fail = onward-no x good N (g .exists) (g .zone) (y .at) (y .good) f;
-        })
+    reached a A y = record {
+      blocked-pass = blocked-yes x good N (g .exists) (g .zone) (y .at) (y .good);
+      blocked-fail = blocked-no x good N (g .exists) (g .zone) (y .at) (y .good);
+      onward-pass = onward-yes x good N (g .exists) (g .zone) (y .at) (y .good);
+      onward-fail = onward-no x good N (g .exists) (g .zone) (y .at) (y .good);
+      part = part-decides x good N (g .exists) (g .zone) (y .at) (y .good);
+    }
 
     -- n successors of the action a from a place on, where D is the denominator
     abbrev successorsFinding : ℕ → ℕ → ℕ → ℕ → Finding
     successorsFinding D n a at =
-        successorsFrom words enabled k (rowReach a) (empty? (rowReach a)) (D * N .value) at n (getD (m .index .edges) a 0) at 0
+        successorsFrom words (t .whole) m limited k (rowReach a) (empty? (rowReach a)) (D * N .value) at n (getD (m .index .edges) a 0) at 0
 
     -- the row of the action a at a place
     abbrev rowFinding : Bool → ℕ → ℕ → Finding
@@ -210,13 +323,13 @@ module _ (M : Model) (words : List ℕ) (m : ModelKept) (t : TableRead) (k : Kep
     rows-walked :
         (c a at w n : ℕ) → getD words at 0 ≡ w → edgesAt (m .index) a ≡ n →
         let b : Bool = isTable blocked w in
-        rowsFrom words enabled k waited (N .value) (suc c) a at ≡
-        orElse (rowFinding b a at) (rowsFrom words enabled k waited (N .value) c (suc a) (at + rowSize b n))
+        rowsFrom words (t .whole) m limited k waited (N .value) (suc c) a at ≡
+        orElse (rowFinding b a at) (rowsFrom words (t .whole) m limited k waited (N .value) c (suc a) (at + rowSize b n))
     unfolding rowsFrom rowSize orElse
     rows-walked c a at w n e j = rw (← e, ← j) (by (isTable blocked (getD words at 0)) (empty? (rowReach a)))
       where
         rest : ℕ → Finding
-        rest at = rowsFrom words enabled k waited (N .value) c (suc a) at
+        rest at = rowsFrom words (t .whole) m limited k waited (N .value) c (suc a) at
 
         by : (b none : Bool) →
             cond b (cond none (rest (suc at)) (finding.NotBlocked at)) (orElse (rowFinding false a at) (rest (at + edgesAt (m .index) a))) ≡
@@ -234,24 +347,25 @@ module _ (M : Model) (words : List ℕ) (m : ModelKept) (t : TableRead) (k : Kep
         let z = reached a A y in
         decides _ (finding.NotBlocked at) _ (z .blocked-pass) (z .blocked-fail) refl none-found
     row-found false a A at ws y d s =
-        let Es : List Edge = A .edges in
-        let total : ℕ = rowSum W Es (successorsOf (length Es) at ws) in
-        let e : 0 + total ≡ total = omega arith in
+        let ss : List Successor = successorsOf (length (A .edges)) at ws in
         found-as
-        (successors-found N A (rowReach a) (reached a A y) (M .denominator * N .value) at total Es (getD (m .index .edges) a 0) at 0 ws
-        (y .at .edges) d (s .2) (sym e))
+        (successors-found N A (rowReach a) (reached a A y) (M .denominator * N .value) at (SumFits M W N A ss) (A .edges)
+        (getD (m .index .edges) a 0) at 0 ws (y .at .edges) (y .formed .edges) d (s .2)
+        (λ r o.
+        let none : 0 + r ≡ r = omega arith in
+        rw none ((λ h. (r, o, h)), λ f. rw (sum-one M W N A (A .edges) ss r (f .0) o (f .1)) (f .2))))
         refl (ap₂ (λ (D n : ℕ). successorsFinding D n a at) (x .denominator) (edges-at (y .at)))
 
     rows-found :
         (As : List Action) (a at : ℕ) (ws : List ℕ) → Each (ActionIs M m) a As → drop at words ≡ ws → RowsStand (length (W .nodes)) As ws →
-        Finds (rowsChecks M W N As (rowsOf As at ws)) (rowsFrom words enabled k waited (N .value) (length As) a at)
+        Finds (rowsChecks M W N As (rowsOf As at ws)) (rowsFrom words (t .whole) m limited k waited (N .value) (length As) a at)
     unfolding Each rowsChecks rowsOf rowsFrom RowsStand findingAnswer
     rows-found [] a at ws y d s = record { says = tt }
     rows-found (A ∷ As) a at ws y d s =
         let b : Bool = isTable blocked (getD ws 0 0) in
         let n : ℕ = length (A .edges) in
         let rest = rows-found As (suc a) (at + rowSize b n) (drop (rowSize b n) ws) (y .1) (behind (rowSize b n) at words ws d) (s .1) in
-        found-as (finds-first _ _ _ _ (row-found b a A at ws (y .0) d (s .0)) rest)
+        found-as (finds-first _ _ _ _ (row-found b a A at ws (y .0) d (s .0)) (λ _. rest))
         (ap (rowsChecks M W N (A ∷ As)) (rows-split A As at ws))
         (rows-walked (length As) a at (getD ws 0 0) n (front at words ws d) (edges-at (y .0 .at)))
 
@@ -292,11 +406,11 @@ module _ (M : Model) (words : List ℕ) (m : ModelKept) (t : TableRead) (k : Kep
     cut-found at ws e c =
         rw (front at words ws e, beyond 1 at words ws e, beyond 2 at words ws e, y .zone)
         (finds-first _ _ _ _ (part-found _ _ (holding-decides N (g .zone) (getD ws 0 0) (c .bound)) _ _ (c .holding))
-        (part-found _ _ (rest-decides N (g .zone) (getD ws 0 0) (c .bound)) _ _ (c .rest)))
+        (λ _. part-found _ _ (rest-decides N (g .zone) (getD ws 0 0) (c .bound)) _ _ (c .rest)))
 
   -- ---- the nodes
 
-  node-found : (n : ℕ) (N : Node) → NodeIs k n N → NodeShaped M W words N → Finds (nodeChecks M W n N) (nodeFinding words enabled k (t .whole) n)
+  node-found : (n : ℕ) (N : Node) → NodeIs k n N → NodeShaped M W words N → Finds (nodeChecks M W n N) (nodeFinding words (t .whole) m limited k n)
   unfolding nodeChecks bodyChecks nodeFinding rowsFinding findingAnswer rowActions bodyOf BodyStands
   node-found n N y g =
       rw (
@@ -304,9 +418,7 @@ module _ (M : Model) (words : List ℕ) (m : ModelKept) (t : TableRead) (k : Kep
         y .value,
         y .place,
         y .zone,
-        enabled-invariant m (N .location) in-slots,
         at .target,
-        i .whole,
         actions-count M m x good formed (N .location) (g .exists),
         front (suc (N .place)) words ws refl,
       ) (by (L .target) refl)
@@ -320,16 +432,13 @@ module _ (M : Model) (words : List ℕ) (m : ModelKept) (t : TableRead) (k : Kep
       at : LocationAt m (N .location) L
       at = location-at x (N .location) (g .exists)
 
-      in-slots : N .location < 16
-      in-slots = omega (arith, g .exists, x .locations, x .limit)
-
       -- the cut, or the rows
       body : (c : Bool) → L .target ≡ false → BodyStands (length (W .nodes)) c L ws →
           Finds
           (bodyChecks M W n N (L .actions)
           (cond c (cutBody (cutOf (suc (N .place)) ws)) (rowsBody (rowsOf (rowActions L) (suc (N .place)) ws))))
           (cond c (cutFinding words k n (entryFor N) (suc (N .place)))
-          (rowsFrom words enabled k (waited N g) (N .value) (length (L .actions)) (getD (m .index .actions) (N .location) 0) (suc (N .place))))
+          (rowsFrom words (t .whole) m limited k (waited N g) (N .value) (length (L .actions)) (getD (m .index .actions) (N .location) 0) (suc (N .place))))
       body true e s = cut-found n N y g (suc (N .place)) ws refl s
       body false e s =
           let all : rowActions L ≡ L .actions = rw e in
@@ -339,26 +448,28 @@ module _ (M : Model) (words : List ℕ) (m : ModelKept) (t : TableRead) (k : Kep
 
       by : (b : Bool) → L .target ≡ b →
           Finds (cond b (check 15 (N .place) (N .value ≡ W .whole) ∷ []) (bodyChecks M W n N (L .actions) (N .body)))
-          (cond b (cond (eqb (N .value) (W .whole)) finding.None (finding.BadTargetValue (N .place)))
+          (cond b (cond (eqb (N .value) (t .whole)) finding.None (finding.BadTargetValue (N .place)))
           (cond (isTable cut (getD ws 0 0)) (cutFinding words k n (entryFor N) (suc (N .place)))
-          (rowsFrom words enabled k (waited N g) (N .value) (length (L .actions)) (getD (m .index .actions) (N .location) 0) (suc (N .place)))))
-      by true e = decides (eqb (N .value) (W .whole)) _ _ (eqb-true (N .value) (W .whole)) (eqb-false (N .value) (W .whole)) refl none-found
+          (rowsFrom words (t .whole) m limited k (waited N g) (N .value) (length (L .actions)) (getD (m .index .actions) (N .location) 0) (suc (N .place)))))
+      by true e =
+          decides (eqb (N .value) (t .whole)) _ _ (λ h. eqb-true (N .value) (t .whole) h ∙ i .whole)
+          (λ h q. eqb-false (N .value) (t .whole) h (q ∙ sym (i .whole))) refl none-found
       by false e = found-as (body (isTable cut (getD ws 0 0)) e (g .stands)) (ap (bodyChecks M W n N (L .actions)) (g .body)) refl
 
   nodes-found :
       (Ns : List Node) (n : ℕ) → Each (NodeIs k) n Ns → All (NodeShaped M W words) Ns →
-      Finds (nodesChecks M W n Ns) (nodesFrom words enabled k (t .whole) (length Ns) n)
+      Finds (nodesChecks M W n Ns) (nodesFrom words (t .whole) m limited k (length Ns) n)
   unfolding Each nodesChecks nodesFrom findingAnswer
   nodes-found [] n y empty = record { says = tt }
-  nodes-found (N ∷ Ns) n y (more g gs) = finds-first _ _ _ _ (node-found n N (y .0) g) (nodes-found Ns (suc n) (y .1) gs)
+  nodes-found (N ∷ Ns) n y (more g gs) = finds-first _ _ _ _ (node-found n N (y .0) g) (λ _. nodes-found Ns (suc n) (y .1) gs)
 
 module _ (M : Model) (words : List ℕ) (m : ModelKept) (t : TableRead) (k : Kept) (x : Indexed M m) (good : GoodModel M) (formed : WellFormed M)
-    (i : TableIndexed (tableOf M words) t k) (sh : Shaped M words (tableOf M words)) (room : ModelStoresFit (m .edges) (m .zones)) where
+    (i : TableIndexed (tableOf M words) t k) (sh : Shaped M words (tableOf M words)) where
   pub walk-first :
       First (nodesChecks M (tableOf M words) 0 (tableOf M words .nodes)) (λ (_ : Unit {0}). Unit {0})
-      (findingAnswer (walked words (enabledKept m) k t))
+      (findingAnswer (walked words m (limitedBelow (m .zones) (m .index .locations)) k t))
   unfolding walked
   walk-first =
       let W : Table = tableOf M words in
-      found-as (nodes-found M words m t k x good formed W i sh room (W .nodes) 0 (i .each) (sh .nodes)) refl
-      (ap (λ (n : ℕ). nodesFrom words (enabledKept m) k (t .whole) n 0) (i .count)) .says
+      found-as (nodes-found M words m t k x good formed W i sh (W .nodes) 0 (i .each) (sh .nodes)) refl
+      (ap (λ (n : ℕ). nodesFrom words (t .whole) m (limitedBelow (m .zones) (m .index .locations)) k n 0) (i .count)) .says

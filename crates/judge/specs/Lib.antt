@@ -3,6 +3,7 @@ pub mod Verdicts
 pub mod Numbers
 pub mod Findings
 pub mod Reaching
+pub mod Landing
 pub mod Cutting
 pub mod Walk
 pub mod Deciding

@@ -2,15 +2,15 @@
 -- Assumes nothing.
 use Prim.Native.Nat.{ℕ, zero, suc, _+_, _-_, _*_, _≤_, _<_}
 use mathlib.Core.Path.{_≡_}
-use mathlib.Core.Bool.{Bool, true, false, cond, _||_}
+use mathlib.Core.Bool.{Bool, true, false, cond}
 use mathlib.Core.List.{List}
 use lib.ListN.{getD, length}
 use lib.Dec.{eqb, leb}
-use Rattle.zone.specs.Squares.{resetSquare, empty?, inside?, Tightens}
+use Rattle.zone.specs.Squares.{empty?, Tightens}
 use Rattle.zone.specs.Stores.{zoneAt}
 use Rattle.zone.specs.declared.zones.Zone.{Zone as Square}
 use Rattle.model.specs.TableKinds.{blocked, cut, isTable}
-use Rattle.model.specs.Fields.{maskOf, landsAt, weightOf}
+use Rattle.model.specs.Fields.{landsAt}
 use Rattle.model.specs.Scan.{guardsAt}
 use Rattle.model.specs.Index.{Kept as ModelKept, StoresFit as ModelStoresFit}
 use Rattle.table.specs.Fields.{numberOf}
@@ -20,39 +20,27 @@ use Rattle.table.specs.Index.{Kept as TableKept, StoresFit as TableStoresFit}
 use Rattle.table.specs.declared.nodes.NodeEntry.{NodeEntry}
 use Rattle.table.specs.declared.read.TableRead.{TableRead}
 use Rattle.judge.specs.Findings.{orElse}
-use Rattle.judge.specs.Reaching.{EdgesFit, waitedSquare, reachSquare}
+use Rattle.judge.specs.Reaching.{common, waitedSquare}
+use Rattle.judge.specs.Landing.{successorOutcome}
 use Rattle.judge.specs.Cutting.{cutFinding, CutAsked}
 use Rattle.judge.specs.declared.findings.Finding.{Finding}
 use Rattle.judge.specs.declared.findings.Finding.the-variants as finding
-use Rattle.judge.specs.declared.walk.Outcome.{Outcome}
+use Rattle.judge.specs.declared.landing.Outcome.{Outcome}
 
--- 17 and 18: the edge of a word, and its successor of the location l with the zone z, at the place p; `empty` says whether the reach is
-unfoldable pub successorFinding : Square → Bool → ℕ → ℕ → Square → ℕ → Finding
-successorFinding reach empty w l z p =
-    cond (eqb l (landsAt w))
-    (cond (empty || inside? (resetSquare (maskOf w) reach) z) finding.None (finding.NotInside p))
-    (finding.WrongLocation p)
-
--- what it comes to, the node s of those kept in k: the finding, and what its edge adds to the row's sum
-unfoldable pub successorOutcome : Square → Bool → ℕ → TableKept → ℕ → ℕ → Outcome
-successorOutcome reach empty w k s p =
-    let N : NodeEntry = entryAt (k .nodes) s in
-    record { finding = successorFinding reach empty w (N .location) (zoneAt (k .zones) s) p; share = weightOf w * N .value }
-
--- the table's words, what is kept of the model, with what each action asks in place of its guard, and what is kept of the table
-module _ (words : List ℕ) (m : ModelKept) (k : TableKept) where
+-- the table's words and its V, what is kept of the model, with which of its locations are limited, and what is kept of the table
+module _ (words : List ℕ) (whole : ℕ) (m : ModelKept) (limited : List Bool) (k : TableKept) where
   -- n successors from the edge e and the place `at` on, with the sum so far; `first` is the place of the row's first word
   unfoldable pub successorsFrom : Square → Bool → ℕ → ℕ → ℕ → ℕ → ℕ → ℕ → Finding
   successorsFrom reach empty limit first zero e at sum = cond (leb sum limit) finding.None (finding.SumTooLarge first)
   successorsFrom reach empty limit first (suc n) e at sum =
-      let o : Outcome = successorOutcome reach empty (getD (m .edges) e 0) k (numberOf (getD words at 0)) at in
+      let o : Outcome = successorOutcome reach empty (getD (m .edges) e 0) (m .zones) limited whole k (numberOf (getD words at 0)) at in
       orElse (o .finding) (successorsFrom reach empty limit first n (suc e) (suc at) (sum + o .share))
 
   -- n rows from the action a and the place `at` on, of a node of that value
   unfoldable pub rowsFrom : Square → ℕ → ℕ → ℕ → ℕ → Finding
   rowsFrom waited value zero a at = finding.None
   rowsFrom waited value (suc n) a at =
-      let reach : Square = reachSquare waited (zoneAt (m .zones) (guardsAt + a)) in
+      let reach : Square = common waited (zoneAt (m .zones) (guardsAt + a)) in
       let edges : ℕ = edgesAt (m .index) a in
       cond (isTable blocked (getD words at 0))
       (cond (empty? reach) (rowsFrom waited value n (suc a) (suc at)) (finding.NotBlocked at))
@@ -67,9 +55,9 @@ module _ (words : List ℕ) (m : ModelKept) (k : TableKept) where
       rowsFrom (waitedSquare (zoneAt (k .zones) n) (zoneAt (m .zones) l)) (N .value) (getD (m .index .actions) (l + 1) 0 - first) first
       (suc (N .place))
 
-  -- the node n, in a table whose head gives V
-  unfoldable pub nodeFinding : ℕ → ℕ → Finding
-  nodeFinding whole n =
+  -- the node n
+  unfoldable pub nodeFinding : ℕ → Finding
+  nodeFinding n =
       let N : NodeEntry = entryAt (k .nodes) n in
       let behind : ℕ = suc (N .place) in
       cond (getD (m .index .targets) (N .location) false)
@@ -77,35 +65,46 @@ module _ (words : List ℕ) (m : ModelKept) (k : TableKept) where
       (cond (isTable cut (getD words behind 0)) (cutFinding words k n N behind) (rowsFinding n N))
 
   -- so many nodes from number n on
-  unfoldable pub nodesFrom : ℕ → ℕ → ℕ → Finding
-  nodesFrom whole zero n = finding.None
-  nodesFrom whole (suc c) n = orElse (nodeFinding whole n) (nodesFrom whole c (suc n))
+  unfoldable pub nodesFrom : ℕ → ℕ → Finding
+  nodesFrom zero n = finding.None
+  nodesFrom (suc c) n = orElse (nodeFinding n) (nodesFrom c (suc n))
 
-  unfoldable pub walked : TableRead → Finding
-  walked t = nodesFrom (t .whole) (t .count) 0
+-- all of them
+unfoldable pub walked : List ℕ → ModelKept → List Bool → TableKept → TableRead → Finding
+walked words m limited k t = nodesFrom words (t .whole) m limited k (t .count) 0
 
-  -- ---- what the walk asks: every word, zone and number that it looks at is there and within its range
+-- ---- what the walk asks: every word, zone and number that it looks at is there and within its range
+module _ (words : List ℕ) (m : ModelKept) (k : TableKept) where
+  -- the guard of the action a and the invariants that its edges land at
+  pub record ActionAsked (a : ℕ) : Type 0 where
+    pub guard : Tightens 2 (zoneAt (m .zones) (guardsAt + a))
+    pub lands : (e : ℕ) → getD (m .index .edges) a 0 ≤ e → e < getD (m .index .edges) (suc a) 0 →
+        Tightens 1 (zoneAt (m .zones) (landsAt (getD (m .edges) e 0)))
 
   -- n rows from the action a and the place `at` on
   unfoldable pub RowsInRange : ℕ → ℕ → ℕ → Type 0
   RowsInRange zero a at = Unit {0}
   RowsInRange (suc n) a at =
       let size : ℕ = rowSize (isTable blocked (getD words at 0)) (edgesAt (m .index) a) in
-      Tightens 1 (zoneAt (m .zones) (guardsAt + a)) × (at < length words) × (at + size ≤ length words) × RowsInRange n (suc a) (at + size)
+      ActionAsked a × (at < length words) × (at + size ≤ length words) × RowsInRange n (suc a) (at + size)
+
+  -- the numbers of edges are places in the store of edge words or the end of them
+  pub record EdgesFit : Type 0 where
+    pub at : (a : ℕ) → getD (m .index .edges) a 0 ≤ 128
 
   -- the stores, with the node n, whose entry is N, in them
   pub record StoresAsked (n : ℕ) (N : NodeEntry) : Type 0 where
     pub model : ModelStoresFit (m .edges) (m .zones)
     pub table : TableStoresFit (k .nodes) (k .zones)
-    pub edges : EdgesFit (m .index)
+    pub edges : EdgesFit
     pub number : n < 64
     pub location : N .location < 16
 
   -- the rows of that node
   pub record RowsAsked (n : ℕ) (N : NodeEntry) : Type 0 where
     pub stores : StoresAsked n N
-    pub zone : Tightens 2 (zoneAt (k .zones) n)
-    pub invariant : Tightens 2 (zoneAt (m .zones) (N .location))
+    pub zone : Tightens 3 (zoneAt (k .zones) n)
+    pub invariant : Tightens 3 (zoneAt (m .zones) (N .location))
     pub place : suc (N .place) ≤ length words
     pub actions : getD (m .index .actions) (N .location + 1) 0 ≤ 32
     pub rows :

@@ -1,29 +1,17 @@
-// The zones of a row's reach: what waiting attains, and what an action attains of it before its resets.
+// The zones of a row's reach, and which invariants an edge can land outside of.
 ghost use mathlib.Core.Path.{_≡_};
+ghost use Prim.Native.Nat.{_≤_};
 ghost use Rattle.zone.specs.Squares.{Tightens};
-ghost use Rattle.model.specs.Index.{StoresFit, keep};
-ghost use Rattle.judge.specs.Reaching.{ActionsFit, enabledKeys, waitedSquare, reachSquare};
-use model::fields;
-use model::index::Index;
-use model::places::GUARDS;
+ghost use Rattle.zone.specs.Stores.{HasSlot};
+ghost use Rattle.judge.specs.Reaching.{common, waitedSquare, limitedBelow};
 use zone::zones::Zone;
 
-// Puts in place of each guard what its action asks of a valuation before its resets: its guard holds, and each of its edges lands in its
-// location's invariant. `edges` and `zones` are those of the model.
-pub(crate) fn enable(index: Index, edges: &[u32], zones: &mut [i32])
-    requires { ⌜ ActionsFit index × StoresFit (now edges) (now zones) ⌝ }
-    ensures { λ _. ⌜ now (zones .exit) ≡ enabledKeys (keep index (now (edges .entry)) (now (zones .entry))) ⌝ }
+// What two zones have in common, tightened. With what waiting attains and the guard of an action it is the action's reach, before resets.
+pub(crate) fn common(zone: Zone, other: Zone) -> Zone
+    requires { ⌜ Tightens 1 zone × Tightens 1 other ⌝ }
+    ensures { λ r. ⌜ r ≡ common zone other ⌝ }
 {
-    let locations = index.locations;
-    for a in 0..index.actions[locations] as usize {
-        let mut zone = Zone::load(zones, GUARDS + a);
-        for e in index.edges[a] as usize..index.edges[a + 1] as usize {
-            let edge = edges[e];
-            let invariant = Zone::load(zones, fields::lands_at(edge) as usize);
-            zone = zone.meet(invariant.before_reset(fields::mask_of(edge)));
-        }
-        zone.put(zones, GUARDS + a);
-    }
+    zone.meet(other).tighten()
 }
 
 // What waiting attains from the states in a zone, within the invariant. Invariants may be lower bounds, and a zone need not lie in its
@@ -32,13 +20,19 @@ pub(crate) fn waited(zone: Zone, invariant: Zone) -> Zone
     requires { ⌜ Tightens 1 zone × Tightens 1 invariant ⌝ }
     ensures { λ r. ⌜ r ≡ waitedSquare zone invariant ⌝ }
 {
-    zone.meet(invariant).tighten().delay().meet(invariant)
+    common(zone, invariant).delay().meet(invariant)
 }
 
-// Of what waiting attains, what an action attains before its resets.
-pub(crate) fn reach_of(waited: Zone, enabled: Zone) -> Zone
-    requires { ⌜ Tightens 1 waited × Tightens 1 enabled ⌝ }
-    ensures { λ r. ⌜ r ≡ reachSquare waited enabled ⌝ }
+// Of each location of a model, whether its invariant leaves a valuation out, so that an edge may land outside. `zones` has the model's
+// invariants in its first slots.
+pub(crate) fn limited(zones: &[i32], locations: usize) -> [bool; 16]
+    requires { ⌜ (locations ≤ 16) × HasSlot 15 (now zones) ⌝ }
+    ensures { λ r. ⌜ r ≡ limitedBelow (now (zones .entry)) locations ⌝ }
 {
-    waited.meet(enabled).tighten()
+    let all = Zone::universe();
+    let mut out = [false; 16];
+    for l in 0..locations {
+        out[l] = !all.inside(Zone::load(zones, l));
+    }
+    out
 }

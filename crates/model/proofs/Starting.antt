@@ -10,7 +10,8 @@ use Rattle.zone.specs.Scale.{Region, within}
 use Rattle.zone.specs.Squares.{universe, met, empty?, Tightens}
 use Rattle.zone.specs.Stores.{zoneAt}
 use Rattle.zone.proofs.Sizes.{small-met, tightens-fewer}
-use Rattle.zone.proofs.Regions.{Stands, inBoth, Some, some, stands-met, empty-yes}
+use Rattle.zone.proofs.Regions.{Stands, inBoth, stands-met}
+use Rattle.zone.proofs.Spans.{spans, Some, some, empty-yes}
 use Rattle.model.specs.Model.{Model}
 use Rattle.model.specs.States.{locationAt, HasStart}
 use Rattle.model.specs.Scan.{startBoundsAt}
@@ -43,7 +44,7 @@ module _
     pub start-yes : M .start < length (M .locations) → empty? (startSquare (M .start) zs) ≡ false → HasStart M
     unfolding startSquare
     start-yes h e =
-        let p : Some (startRegion M) = some start-fits start-met e in
+        let p : Some (startRegion M) = some start-fits (spans start-met) e in
         record {
           scale = p .scale;
           positive = p .positive;
@@ -54,7 +55,7 @@ module _
     pub start-no : empty? (startSquare (M .start) zs) ≡ true → HasStart M → ⊥
     unfolding startSquare
     start-no e s =
-        empty-yes start-fits start-met e .at (s .scale) (s .positive) (s .state .valuation) (
+        empty-yes start-fits (spans start-met) e .at (s .scale) (s .positive) (s .state .valuation) (
           subst (λ l. within (locationAt M l .invariant) (s .scale) (s .state .valuation)) (s .starts .location) (s .starts .state .invariant),
           s .starts .bounds,
         )

@@ -25,18 +25,8 @@ use Rattle.zone.proofs.ReadLaws.{read-good, read-bad}
 use Rattle.zone.proofs.WordLaws.{good-first, good-second, good-number}
 use Rattle.zone.proofs.Sizes.{tightens-read}
 use Rattle.zone.proofs.Bools.{false-true, both, and, right-true}
-use Rattle.zone.proofs.Regions.{
-  Stands,
-  inBoth,
-  holding,
-  stands-same,
-  stands-universe,
-  stands-withBound,
-  empty-yes,
-  empty-no,
-  lies-yes,
-  lies-no,
-}
+use Rattle.zone.proofs.Regions.{Stands, inBoth, holding, stands-same, stands-universe, stands-withBound}
+use Rattle.zone.proofs.Spans.{spans, empty-yes, empty-no, lies-yes, lies-no}
 
 -- ---- the table that is read stands for the zone of the words
 module _ (C : ℕ) (h : C ≤ 4) where
@@ -84,9 +74,9 @@ module _ (C : ℕ) (words : List ℕ) where
           (emptinessAnswer (cond g (cond e emptiness.Empty emptiness.NotEmpty) (emptiness.BadBound (readZone C words .place))))
       by false e p q = read-bad 32 C Empties words 0 universe p
       by true true p q = first-all (boundChecks 32 C 0 words) Empties true (read-good 32 C words 0 universe p)
-          ((λ _. empty-yes (tightens-read C words) (read-stands C h words p) q), λ _. tt)
+          ((λ _. empty-yes (tightens-read C words) (spans (read-stands C h words p)) q), λ _. tt)
       by true false p q = first-all (boundChecks 32 C 0 words) Empties false (read-good 32 C words 0 universe p)
-          ((λ f. absurd f), λ m. empty-no (tightens-read C words) (read-stands C h words p) q m)
+          ((λ f. absurd f), λ m. empty-no (tightens-read C words) (spans (read-stands C h words p)) q m)
 
   pub decided-empty : AskedEmpty C words (emptinessAnswer (decideEmpty C words))
   unfolding decideEmpty emptinessAnswer clockCheck
@@ -126,10 +116,10 @@ module _ (C : ℕ) (first second : List ℕ) where
       by true false i p q r = behind (refused 33 (readZone C second .place)) p (read-bad 33 C Includes second 0 universe q)
       by true true true p q r =
           behind (accepted true) p (first-all (boundChecks 33 C 0 second) Includes true (read-good 33 C second 0 universe q)
-          ((λ _. lies-yes (tightens-read C first) (read-stands C h first p) (read-stands C h second q) r), λ _. tt))
+          ((λ _. lies-yes (tightens-read C first) (spans (read-stands C h first p)) (read-stands C h second q) r), λ _. tt))
       by true true false p q r =
           behind (accepted false) p (first-all (boundChecks 33 C 0 second) Includes false (read-good 33 C second 0 universe q)
-          ((λ f. absurd f), λ m. lies-no (tightens-read C first) (read-stands C h first p) (read-stands C h second q) r m))
+          ((λ f. absurd f), λ m. lies-no (tightens-read C first) (spans (read-stands C h first p)) (read-stands C h second q) r m))
 
   pub decided-inside : AskedInside C first second (inclusionAnswer (decideInside C first second))
   unfolding decideInside inclusionAnswer clockCheck

@@ -11,6 +11,7 @@ pub mod WordLaws
 pub mod Sizes
 pub mod SquareTables
 pub mod Regions
+pub mod Spans
 pub mod PartLaws
 pub mod Attained
 pub mod CheckLaws

@@ -235,13 +235,21 @@ holds-self k k₁ x (keyed z) h =
 twice : (k : ℕ) (z : ℤ) → (2 * k * up z ≡ 2 * (k * up z)) × (2 * k * dn z ≡ 2 * (k * dn z))
 twice k z = (N.mul-assoc 2 k (up z), N.mul-assoc 2 k (dn z))
 
-pub double : (k x y : ℕ) (a : Limit) → Holds k x y a → Holds (2 * k) (2 * x) (2 * y) a
-double k x y none h = holds-none (2 * k) (2 * x) (2 * y)
-double k x y (keyed z) h = omega (arith, twice k (half z), halved z .small)
+pub multiply : (m : ℕ) → 1 ≤ m → (k x y : ℕ) (a : Limit) → Holds k x y a → Holds (m * k) (m * x) (m * y) a
+multiply m m₁ k x y none h = holds-none (m * k) (m * x) (m * y)
+multiply m m₁ k x y (keyed z) h =
+    let l : 2 * (x + k * dn (half z)) + 1 ≤ 2 * (y + k * up (half z)) + lowest z = omega (arith, halved z .small) in
+    let s = simp N.mul-add at (scaled m (x + k * dn (half z)) (y + k * up (half z)) 1 (lowest z) m₁ (omega arith) (halved z .small) l) in
+    omega (arith, N.mul-assoc m k (dn (half z)), N.mul-assoc m k (up (half z)))
 
-pub halve : (k x y : ℕ) (a : Limit) → Holds (2 * k) (2 * x) (2 * y) a → Holds k x y a
-halve k x y none h = holds-none k x y
-halve k x y (keyed z) h = omega (arith, twice k (half z), halved z .small)
+pub divide : (m : ℕ) → 1 ≤ m → (k x y : ℕ) (a : Limit) → Holds (m * k) (m * x) (m * y) a → Holds k x y a
+divide m m₁ k x y none h = holds-none k x y
+divide m m₁ k x y (keyed z) h =
+    let e = N.mul-add m x (k * dn (half z)) in
+    let f = N.mul-add m y (k * up (half z)) in
+    let l : m * (x + k * dn (half z)) < m * (y + k * up (half z)) + lowest z =
+    omega (arith, N.mul-assoc m k (dn (half z)), N.mul-assoc m k (up (half z)), e, f) in
+    omega (arith, unscaled m (x + k * dn (half z)) (y + k * up (half z)) (lowest z) m₁ (halved z .small) l, halved z .small)
 
 -- ---- the least reading, at twice the scale, of a clock that a bound holds against
 abbrev pub low : ℕ → ℕ → Limit → ℕ
@@ -327,8 +335,8 @@ bounds = record {
   unshift = λ k x y t. holds-if k (x + t) (y + t) x y (omega arith);
   wait = λ k x y t. holds-if k x y x (y + t) (omega arith);
   sooner = λ k x y t. holds-if k (x + t) y x y (omega arith);
-  double = double;
-  halve = halve;
+  multiply = multiply;
+  divide = divide;
   asTight? = asTight?;
   asTight-⊑ = asTight-⊑;
   low = low;

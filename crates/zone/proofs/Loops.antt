@@ -22,7 +22,7 @@ use Rattle.zone.specs.Cells.{pastEnd}
 use Rattle.zone.specs.Squares.{cell, listOf, all?}
 use Rattle.zone.specs.declared.bounds.Bound.{Bound as Cell}
 use Rattle.zone.specs.declared.zones.Zone.{Zone as Square}
-use Rattle.zone.proofs.Bools.{false-true}
+use Rattle.zone.proofs.Bools.{true-false, false-true}
 use Rattle.zone.proofs.Integers.{lt-or-ge}
 
 -- the cell at an index is that of the index's two clocks
@@ -133,3 +133,14 @@ all-at (suc n) f e i h = by (all? n f) (f n) (all-at n f) refl e (eq-or-lt-of-le
     by true b rest e t (inl q) = ap f q ∙ sym e ∙ t
     by true b rest e t (inr l) = rest refl i l
     by false b rest e t q = false-true t
+
+-- a test that does not pass at every number below n fails at one of them
+pub all-fails : (n : ℕ) (f : ℕ → Bool) → all? n f ≡ false → (i : ℕ) × (i < n) × (f i ≡ false)
+unfolding all?
+all-fails zero f e = true-false e
+all-fails (suc n) f e = by (all? n f) (f n) (all-fails n f) refl e
+  where
+    by : (a b : Bool) → (a ≡ false → (i : ℕ) × (i < n) × (f i ≡ false)) → f n ≡ b → a && b ≡ false → (i : ℕ) × (i < suc n) × (f i ≡ false)
+    by true true rest q t = true-false t
+    by true false rest q t = (n, omega arith, q)
+    by false b rest q t = let r = rest refl in (r .0, omega (arith, r .1), r .2)

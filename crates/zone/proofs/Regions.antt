@@ -1,7 +1,7 @@
--- Laws of zones by value, for their callers: a square table stands for a region, and what is worked out from the table is said of the
--- region. Assumes nothing.
+-- Laws of zones by value, for their callers: a square table stands for a region, as do the tables that are made of bounds or worked out of such
+-- tables. Assumes nothing.
 use Prim.Native.Nat.{ℕ, zero, suc, _≤_, _<_}
-use mathlib.Core.Path.{_≡_, refl, sym, subst, _∙_, fun-ext}
+use mathlib.Core.Path.{_≡_, refl, sym, subst, fun-ext}
 use mathlib.Core.Bool.{Bool, true, false, cond, _||_}
 use mathlib.Core.List.{[]}
 use native.Mathlib.Nat as N
@@ -9,48 +9,17 @@ use native.Mathlib.Omega.{arith}
 use lib.Dec.{T, eqb, eqb→eq, eqb-refl}
 use lib.IntN.{natAbs}
 use lib.ListN.{length}
-use Rattle.zone.specs.Scale.{Valuation, read, Bound, holds?, in?, Region, within, Empty, Inside}
+use Rattle.zone.specs.Scale.{Valuation, read, Bound, holds?, in?, Region, within}
 use Rattle.zone.specs.Cells.{unbounded, atMostZero, tighterOf}
-use Rattle.zone.specs.Squares.{cell, universe, withBound, met, tightened, empty?, inside?, Tightens}
+use Rattle.zone.specs.Squares.{cell, universe, withBound, met}
 use Rattle.zone.specs.Reading.{cellOf}
 use Rattle.zone.specs.declared.bounds.Bound.{Bound as Cell}
 use Rattle.zone.specs.declared.zones.Zone.{Zone as Square}
-use Rattle.zone.proofs.Bools.{true-false, false-true}
 use Rattle.zone.proofs.Limits.{none, bounds}
 use Rattle.zone.proofs.KeyLaws.{limitOf, holds→, →holds, limit-cellOf}
-use Rattle.zone.proofs.SquareTables.{
-  tableOf,
-  sized-square,
-  sized-tightened,
-  sized-with,
-  table-universe,
-  with-old,
-  with-new,
-  with-cases,
-  table-met,
-  table-tightened,
-  ok-nonempty,
-  nonempty-ok,
-  cells-inside,
-  inside-cells,
-}
-use Rattle.zone.proofs.Theory.Tables.{Ok, close, meet}
-use Rattle.zone.proofs.Theory.Meaning.{
-  In,
-  Based,
-  in-⊑,
-  close-in,
-  in-close,
-  close-ok,
-  close-based,
-  meet-in,
-  in-meet-left,
-  in-meet-right,
-  meet-based,
-  good-close,
-}
-use Rattle.zone.proofs.Theory.Restore.{Point, point}
-use Rattle.zone.proofs.Theory.Inside.{bound-least}
+use Rattle.zone.proofs.SquareTables.{tableOf, sized-square, sized-with, table-universe, with-old, with-new, with-cases, table-met}
+use Rattle.zone.proofs.Theory.Tables.{meet}
+use Rattle.zone.proofs.Theory.Meaning.{In, Based, in-⊑, meet-in, in-meet-left, in-meet-right, meet-based}
 
 -- v is in the square table at scale k
 unfoldable pub inSquare : Square → Region
@@ -152,78 +121,3 @@ stands-met {y = y} {z = z} s t = record {
       let q : In bounds 5 (meet bounds (tableOf y) (tableOf z)) k (read v) = rw (table-met y z) at p in
       (s .out k k₁ v (in-meet-left bounds (tableOf y) (tableOf z) k₁ q), t .out k k₁ v (in-meet-right bounds (tableOf y) (tableOf z) k₁ q));
 }
-
-pub stands-tightened : {R : Region} {z : Square} → Tightens 1 z → Stands R z → Stands R (tightened z)
-unfolding inSquare
-stands-tightened {z = z} fits s = record {
-  sized = sized-tightened z;
-  based = rw (table-tightened z fits) (close-based bounds 5 (s .based));
-  into = λ k k₁ v p. rw (table-tightened z fits) (close-in bounds (s .into k k₁ v p));
-  out = λ k k₁ v p. s .out k k₁ v (in-close bounds 5 (tableOf z) k₁ (rw (table-tightened z fits) at p));
-}
-
--- ---- "empty": a negative diagonal after tightening
--- a valuation of a region at some scale
-pub record Some (R : Region) : Type 0 where
-  pub scale : ℕ
-  pub positive : 1 ≤ scale
-  pub valuation : Valuation
-  pub holds : R scale valuation
-
-module _ {R : Region} {z : Square} (fits : Tightens 1 z) (s : Stands R z) where
-  tightened-ok : empty? (tightened z) ≡ false → Ok bounds 5 (close bounds 5 (tableOf z))
-  tightened-ok e = rw (table-tightened z fits) at (nonempty-ok (tightened z) e)
-
-  pub some : empty? (tightened z) ≡ false → Some R
-  unfolding inSquare
-  some e = record {
-    scale = p .k;
-    positive = p .k₁;
-    valuation = p .v;
-    holds = s .out (p .k) (p .k₁) (p .v) (rw (read-same (p .v) (p .v₀)) (in-close bounds 5 (tableOf z) (p .k₁) (p .holds)));
-  }
-    where
-      p : Point bounds 5 (close bounds 5 (tableOf z))
-      p = point bounds (omega arith) (good-close bounds (s .based) (tightened-ok e))
-
-  pub empty-no : empty? (tightened z) ≡ false → Empty R → ⊥
-  empty-no e m = let p : Some R = some e in m .at (p .scale) (p .positive) (p .valuation) (p .holds)
-
-  pub empty-yes : empty? (tightened z) ≡ true → Empty R
-  unfolding inSquare
-  empty-yes e = record {
-    at = λ k k₁ v r. false-true (sym (ok-nonempty (tightened z) (rw (table-tightened z fits) (close-ok bounds k₁ (s .into k k₁ v r)))) ∙ e);
-  }
-
--- ---- "inside": cell by cell, after tightening
-module _ {R S : Region} {y z : Square} (fits : Tightens 1 y) (s : Stands R y) (t : Stands S z) where
-  pub inside-yes : inside? (tightened y) z ≡ true → Inside R S
-  unfolding inSquare
-  inside-yes e = record {
-    at = λ k k₁ v r.
-        t .out k k₁ v (in-⊑ bounds k₁ (rw (table-tightened y fits) at (inside-cells (tightened y) z e)) (close-in bounds (s .into k k₁ v r)));
-  }
-
-  pub inside-no : empty? (tightened y) ≡ false → inside? (tightened y) z ≡ false → Inside R S → ⊥
-  unfolding inSquare
-  inside-no e f m = false-true (sym f ∙ cells-inside (tightened y) z (rw (table-tightened y fits) cells))
-    where
-      cells : (i j : ℕ) → i < 5 → j < 5 → bounds ._⊑_ (close bounds 5 (tableOf y) i j) (tableOf z i j)
-      cells i j hi hj = bound-least bounds (good-close bounds (s .based) (tightened-ok fits s e)) hi hj (tableOf z i j)
-          (λ k k₁ v v₀ p. rw (read-same v v₀) at
-          (t .into k k₁ v (m .at k k₁ v (s .out k k₁ v (rw (read-same v v₀) (in-close bounds 5 (tableOf y) k₁ p))))) .at i j hi hj)
-
-  -- an empty region lies inside any
-  pub lies-yes : (empty? (tightened y) || inside? (tightened y) z) ≡ true → Inside R S
-  lies-yes = by (empty? (tightened y)) refl
-    where
-      by : (c : Bool) → empty? (tightened y) ≡ c → (c || inside? (tightened y) z) ≡ true → Inside R S
-      by true e h = record { at = λ k k₁ v r. absurd (empty-yes fits s e .at k k₁ v r) }
-      by false e h = inside-yes h
-
-  pub lies-no : (empty? (tightened y) || inside? (tightened y) z) ≡ false → Inside R S → ⊥
-  lies-no = by (empty? (tightened y)) refl
-    where
-      by : (c : Bool) → empty? (tightened y) ≡ c → (c || inside? (tightened y) z) ≡ false → Inside R S → ⊥
-      by true e h m = true-false h
-      by false e h m = inside-no e h m

@@ -1,5 +1,5 @@
 -- How large the bounds of a table grow, and how often it can be tightened. Assumes nothing.
-use Prim.Native.Nat.{ℕ, zero, suc, _+_, _-_, _*_, _/_, _%_, _^_, _≤_, _<_}
+use Prim.Native.Nat.{ℕ, zero, suc, _+_, _-_, _*_, _^_, _≤_, _<_}
 use mathlib.Core.Path.{_≡_, refl, sym, ap, subst, _∙_}
 use mathlib.Core.Bool.{Bool, true, false, not, cond, _&&_, _||_}
 use mathlib.Core.List.{List, [], _∷_}
@@ -13,7 +13,7 @@ use lib.Pow.{pow-add}
 use lib.Seq.{getD-set-same, getD-set-other, set-out}
 use Rattle.zone.specs.Cells.{unbounded, atMostZero, tighterOf, size, pastEnd}
 use Rattle.zone.specs.Squares.{Small, Tightens, cell, listOf, squareOf, universe, withBound, met, passed, passedBelow, tightened}
-use Rattle.zone.specs.Squares.{delayedSquare, source, beforeBelow, beforeReset}
+use Rattle.zone.specs.Squares.{delayedSquare, source, resetSquare}
 use Rattle.zone.specs.Scale.{Bound}
 use Rattle.zone.specs.Words.{boundOf, goodBound?}
 use Rattle.zone.specs.Reading.{cellOf, withWord, readFrom, readZone}
@@ -97,17 +97,8 @@ module _ {n : ℕ} (z : Square) (s : Small n z) where
       let g = s .at 0 in
       small-square _ (λ i j. size-cond (not (eqb i 0) && eqb j 0) unbounded (cell z i j) (rw size-unbounded (omega arith)) (s .at _))
 
--- a bound that is moved to other clocks keeps its key
-module _ {n : ℕ} (z : Square) (h : 2 ≤ n) (s : Small n z) (mask : ℕ) where
-  small-beforeBelow : (p : ℕ) → Small n (beforeBelow mask p z)
-  unfolding beforeBelow
-  small-beforeBelow zero = small-weaken small-universe h
-  small-beforeBelow (suc p) =
-      small-withBound (beforeBelow mask p z) (small-beforeBelow p)
-      (source mask (p / 5)) (source mask (p % 5)) (cell z (p / 5) (p % 5)) (s .at _)
-
-  small-before : Small n (beforeReset mask z)
-  small-before = small-beforeBelow 25
+  pub small-reset : (mask : ℕ) → Small n (resetSquare mask z)
+  small-reset mask = small-square (λ i j. cell z (source mask i) (source mask j)) (λ i j. s .at (source mask i * 5 + source mask j))
 
 -- each pass doubles at most
 small-passedBelow : (m : ℕ) {n : ℕ} (z : Square) → 2 ^ m * n ≤ 2 ^ 28 → Small n z → Small (2 ^ m * n) (passedBelow m z)
@@ -133,9 +124,6 @@ tightens-less n z h s =
     let f : 2 ^ 5 * 2 ^ (28 - 5 * suc n) ≡ 2 ^ (28 - 5 * n) = sym (pow-add 2 5 (28 - 5 * suc n)) ∙ ap (λ k. 2 ^ k) e in
     let g : 2 ^ (28 - 5 * n) ≤ 2 ^ 28 = pow-le-pow-right {n = 2} (omega arith) {i = 28 - 5 * n} {j = 28} (omega arith) in
     subst (λ k. Small k (tightened z)) f (small-passedBelow 5 z (omega arith) s)
-
-pub tightens-before : (z : Square) → Tightens 3 z → (mask : ℕ) → Tightens 3 (beforeReset mask z)
-tightens-before z s mask = small-before z (omega arith) s mask
 
 pub tightens-universe : Tightens 3 universe
 tightens-universe = small-weaken small-universe (omega arith)

@@ -43,7 +43,7 @@ use Rattle.zone.proofs.KeyLaws.{
   asTight-negative,
 }
 use Rattle.zone.proofs.Sizes.{small-met, small-delayed, small-passes, tightens-fewer, tightens-less}
-use Rattle.zone.proofs.Loops.{at-clocks, listOf-length, listOf-at, listOf-same, all-pass, all-at}
+use Rattle.zone.proofs.Loops.{at-clocks, listOf-length, listOf-at, listOf-same, all-pass, all-at, all-fails}
 use Rattle.zone.proofs.Theory.Tables.{Table, Ok, pass, close, meet}
 use Rattle.zone.proofs.Theory.Delay.{delay}
 use Rattle.zone.proofs.Theory.Reset.{renamed, renamed-lt}
@@ -185,13 +185,6 @@ sources-at mask {from} e i h =
     let q : getD from i 0 ≡ source mask i = rw e (listOf-at 0 (source mask) 5 i h) in
     (q, omega (arith, source-lt mask i h))
 
--- those of the two clocks of a cell are clocks
-abbrev pub AreClocks : List ℕ → ℕ → Type 0
-AreClocks from p = (getD from (p / 5) 0 < 5) × (getD from (p % 5) 0 < 5)
-
-pub sources-lt : (mask : ℕ) {from : List ℕ} → from ≡ listOf (source mask) 5 0 → (p : ℕ) → p < 25 → AreClocks from p
-sources-lt mask e p h = (sources-at mask e (p / 5) (omega arith) .1, sources-at mask e (p % 5) (omega arith) .1)
-
 pub table-reset : (mask : ℕ) (z : Square) (i j : ℕ) → i < 5 → j < 5 → tableOf (resetSquare mask z) i j ≡ tableOf z (source mask i) (source mask j)
 table-reset mask z i j hi hj =
     table-at (resetSquare mask z) i j hi hj ∙ ap limitOf (square-at (λ a b. cell z (source mask a) (source mask b)) i j hi hj)
@@ -272,15 +265,35 @@ inside-cells y z e i j hi hj =
     (asTight-tighter (cell y i j) (cell z i j) .0
     (not-true _ (all-at 25 (λ p. not (tighter? (getD (z .cells) p pastEnd) (getD (y .cells) p pastEnd))) e (i * 5 + j) (omega arith))))
 
-pub cells-inside : (y z : Square) → ((i j : ℕ) → i < 5 → j < 5 → bounds ._⊑_ (tableOf y i j) (tableOf z i j)) → inside? y z ≡ true
+-- a cell of y that is not as tight as that of z
+pub record Loose (y z : Square) : Type 0 where
+  pub i : ℕ
+  pub j : ℕ
+  pub hi : i < 5
+  pub hj : j < 5
+  pub looser : T (not (bounds .asTight? (tableOf y i j) (tableOf z i j)))
+
+pub loose-cell : (y z : Square) → inside? y z ≡ false → Loose y z
 unfolding inside?
-cells-inside y z h = all-pass 25 (λ p. not (tighter? (getD (z .cells) p pastEnd) (getD (y .cells) p pastEnd))) each
+loose-cell y z e = record { i = p / 5; j = p % 5; hi = omega (arith, f .1); hj = omega (arith, f .1); looser = by (bounds .asTight? a b) refl }
   where
-    each : (p : ℕ) → p < 25 → not (tighter? (getD (z .cells) p pastEnd) (getD (y .cells) p pastEnd)) ≡ true
-    each p l =
-        let hi : p / 5 < 5 = omega arith in
-        let hj : p % 5 < 5 = omega arith in
-        rw (asTight-tighter (getD (y .cells) p pastEnd) (getD (z .cells) p pastEnd) .1
-        (subst₂ (bounds ._⊑_) (table-at y (p / 5) (p % 5) hi hj ∙ ap limitOf (at-clocks y p))
-        (table-at z (p / 5) (p % 5) hi hj ∙ ap limitOf (at-clocks z p))
-        (h (p / 5) (p % 5) hi hj)))
+    f : (p : ℕ) × (p < 25) × (not (tighter? (getD (z .cells) p pastEnd) (getD (y .cells) p pastEnd)) ≡ false)
+    f = all-fails 25 (λ p. not (tighter? (getD (z .cells) p pastEnd) (getD (y .cells) p pastEnd))) e
+
+    p : ℕ
+    p = f .0
+
+    a : Limit
+    a = tableOf y (p / 5) (p % 5)
+
+    b : Limit
+    b = tableOf z (p / 5) (p % 5)
+
+    same : (x : Square) → tableOf x (p / 5) (p % 5) ≡ limitOf (getD (x .cells) p pastEnd)
+    same x = table-at x (p / 5) (p % 5) (omega (arith, f .1)) (omega (arith, f .1)) ∙ ap limitOf (at-clocks x p)
+
+    by : (c : Bool) → bounds .asTight? a b ≡ c → T (not c)
+    by true q =
+        false-true (sym (f .2) ∙ ap not (asTight-tighter (getD (y .cells) p pastEnd) (getD (z .cells) p pastEnd) .1
+        (subst₂ (bounds ._⊑_) (same y) (same z) (bounds .asTight-⊑ a b (rw q tt)))))
+    by false q = tt

@@ -58,15 +58,6 @@ source mask i = cond (masked? mask i) 0 i
 abbrev pub resetSquare : ℕ → Square → Square
 resetSquare mask z = squareOf (λ i j. cell z (source mask i) (source mask j))
 
--- the zone where the first p bounds of z hold after the reset: each is put on the sources of its two clocks
-unfoldable pub beforeBelow : ℕ → ℕ → Square → Square
-beforeBelow mask zero z = universe
-beforeBelow mask (suc p) z = withBound (source mask (p / 5)) (source mask (p % 5)) (cell z (p / 5) (p % 5)) (beforeBelow mask p z)
-
--- the valuations that the reset brings into z
-abbrev pub beforeReset : ℕ → Square → Square
-beforeReset mask z = beforeBelow mask 25 z
-
 -- the table of what a delay from y attains in z, tightened; at one scale it may hold more
 abbrev pub reached : Square → Square → Square
 reached y z = tightened (met (delayedSquare (tightened y)) z)

@@ -2,7 +2,7 @@
 ghost use mathlib.Core.Path.{_≡_};
 ghost use Prim.Native.Nat.{_<_};
 ghost use Rattle.zone.specs.Moves.{masked?};
-ghost use Rattle.zone.specs.Squares.{universe, withBound, met, tightened, delayedSquare, source, resetSquare, beforeReset};
+ghost use Rattle.zone.specs.Squares.{universe, withBound, met, tightened, delayedSquare, source, resetSquare};
 ghost use Rattle.zone.specs.Squares.{listOf, empty?, inside?, Tightens};
 use crate::bounds::Bound;
 
@@ -153,21 +153,6 @@ impl Zone {
             for j in 0..5 {
                 out.cells[i * 5 + j] = self.cells[row + from[j]];
             }
-        }
-        out
-    }
-
-    // The valuations that the reset brings into this zone: a bound on a masked clock becomes one on clock 0.
-    pub fn before_reset(self, mask: u32) -> Zone
-        ensures { λ r. ⌜ r ≡ beforeReset mask self ⌝ }
-    {
-        let from = sources(mask);
-        let mut out = Zone::universe();
-        for p in 0..25 {
-            let i = from[p / 5];
-            let j = from[p % 5];
-            let old = out.cells[i * 5 + j];
-            out.cells[i * 5 + j] = old.tighter_of(self.cells[p]);
         }
         out
     }

@@ -45,8 +45,9 @@ pub record BoundLaws : Type 1 where
   pub unshift : (k x y t : ℕ) (a : B) → Holds k (x + t) (y + t) a → Holds k x y a
   pub wait : (k x y t : ℕ) (a : B) → Holds k x y a → Holds k x (y + t) a
   pub sooner : (k x y t : ℕ) (a : B) → Holds k (x + t) y a → Holds k x y a
-  pub double : (k x y : ℕ) (a : B) → Holds k x y a → Holds (2 * k) (2 * x) (2 * y) a
-  pub halve : (k x y : ℕ) (a : B) → Holds (2 * k) (2 * x) (2 * y) a → Holds k x y a
+  -- at a multiple of the scale
+  pub multiply : (m : ℕ) → 1 ≤ m → (k x y : ℕ) (a : B) → Holds k x y a → Holds (m * k) (m * x) (m * y) a
+  pub divide : (m : ℕ) → 1 ≤ m → (k x y : ℕ) (a : B) → Holds (m * k) (m * x) (m * y) a → Holds k x y a
   -- the test of the order
   pub asTight? : B → B → Bool
   pub asTight-⊑ : (a b : B) → T (asTight? a b) → a ⊑ b

@@ -17,7 +17,7 @@ later v t (suc i) = v (suc i) + t
 
 module _ (𝓑 : BoundLaws) where
   open BoundLaws 𝓑 using (B, _⊑_, unbounded, ⊑-refl)
-  open BoundLaws 𝓑 using (Holds, holds-⊑, self-holds, holds-atMostZero, holds-unbounded, shift, unshift, wait, sooner, double)
+  open BoundLaws 𝓑 using (Holds, holds-⊑, self-holds, holds-atMostZero, holds-unbounded, shift, unshift, wait, sooner, multiply)
 
   infix 50 _⊑_
   unfoldable pub delay : Table 𝓑 → Table 𝓑
@@ -99,7 +99,7 @@ module _ (𝓑 : BoundLaws) where
       all zero (suc j) hi hj = unshift (2 * k) 0 (v (suc j)) t (A 0 (suc j)) (rw (back j hj, N.zero-add t) (under j hj))
       all (suc i) zero hi hj = unshift (2 * k) (v (suc i)) 0 t (A (suc i) 0) (rw (back i hi, N.zero-add t) (over i hi))
       all (suc i) (suc j) hi hj = unshift (2 * k) (v (suc i)) (v (suc j)) t (A (suc i) (suc j))
-          (rw (back i hi, back j hj) (double k (u (suc i)) (u (suc j)) (A (suc i) (suc j)) (p .at (suc i) (suc j) hi hj)))
+          (rw (back i hi, back j hj) (multiply 2 (omega arith) k (u (suc i)) (u (suc j)) (A (suc i) (suc j)) (p .at (suc i) (suc j) hi hj)))
 
   -- a bound that holds before and after a delay holds throughout it
   pub between₁ :

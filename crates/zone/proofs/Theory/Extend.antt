@@ -36,7 +36,7 @@ most-ge (suc m) f i h = by (most-ge m f i) (N.eq-or-lt-of-le (N.le-of-suc-le-suc
 
 -- the clocks read w at scale k; a i bounds clock i minus the new one, b i the new one minus clock i
 module _ (𝓑 : BoundLaws) (r k : ℕ) (w : ℕ → ℕ) (a b : ℕ → 𝓑 .B) where
-  open BoundLaws 𝓑 using (_⊕_, Holds, low, low-holds, low-meets, double)
+  open BoundLaws 𝓑 using (_⊕_, Holds, low, low-holds, low-meets, multiply)
 
   infixl 70 _⊕_
   -- what the new clock reads, at twice the scale
@@ -55,4 +55,4 @@ module _ (𝓑 : BoundLaws) (r k : ℕ) (w : ℕ → ℕ) (a b : ℕ → 𝓑 .B
         (λ i hi. low-meets k (w i) (w j) (a i) (b j) (meets i j hi h) room₂)
       where
         room₂ : Holds (2 * k) 0 (2 * w j) (b j)
-        room₂ = double k 0 (w j) (b j) (room j h)
+        room₂ = multiply 2 (omega arith) k 0 (w j) (b j) (room j h)

@@ -1,9 +1,8 @@
--- The cells of a good table are the tightest bounds: one that every valuation of the table meets, at every scale, is at least as loose as
--- the cell. Otherwise the opposite of the bound can be put into the table, and a point of that table is a valuation at which the bound
--- fails. Assumes nothing.
+-- The cells of a good table are the tightest bounds: where another bound is tighter than the cell, its opposite can be put into the table, and a
+-- point of that table is a valuation at which the bound fails. Assumes nothing.
 use Prim.Native.Nat.{ℕ, _≤_, _<_}
 use mathlib.Core.Path.{_≡_}
-use mathlib.Core.Bool.{Bool, true, false, not}
+use mathlib.Core.Bool.{not}
 use lib.Dec.{T}
 use native.Mathlib.Omega.{arith}
 use Rattle.zone.proofs.Theory.BoundLaws.{BoundLaws}
@@ -41,10 +40,3 @@ module _ (𝓑 : BoundLaws) where
 
         there : insert 𝓑 j i (negation b) A j i ⊑ negation b
         there = insert-new 𝓑 A j i (negation b) (good .based .flat j hj) (good .based .flat i hi)
-
-    pub bound-least : ((k : ℕ) → 1 ≤ k → (v : ℕ → ℕ) → v 0 ≡ 0 → In 𝓑 n A k v → Holds k (v i) (v j) b) → A i j ⊑ b
-    bound-least all = by (asTight? (A i j) b) (asTight-⊑ (A i j) b) breach
-      where
-        by : (c : Bool) → (T c → A i j ⊑ b) → (T (not c) → Breach n A i j b) → A i j ⊑ b
-        by true f g = f tt
-        by false f g = absurd (g tt .fails (all (g tt .k) (g tt .k₁) (g tt .v) (g tt .v₀) (g tt .holds)))

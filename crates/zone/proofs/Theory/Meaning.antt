@@ -1,6 +1,7 @@
 -- What a table says of valuations at a scale. Closing keeps it exactly, a meet holds what both tables hold, and a negative diagonal rules
 -- every valuation out. Assumes nothing.
-use Prim.Native.Nat.{ℕ, zero, suc, _≤_, _<_}
+use Prim.Native.Nat.{ℕ, zero, suc, _*_, _≤_, _<_}
+use mathlib.Core.Path.{_≡_}
 use native.Mathlib.Nat as N
 use native.Mathlib.Omega.{arith}
 use Rattle.zone.proofs.Theory.BoundLaws.{BoundLaws}
@@ -8,7 +9,7 @@ use Rattle.zone.proofs.Theory.Tables.{Table, Closed, Ok, pass, pass-cas
 use Rattle.zone.proofs.Theory.Tables.{insert, insert-old, insert-through, insert-diagonal, meet, meet-left, meet-right, meet-cases}
 
 module _ (𝓑 : BoundLaws) where
-  open BoundLaws 𝓑 using (B, _⊑_, _⊕_, atMostZero, ⊑-trans, Holds, holds-⊑, holds-⊕, holds-self)
+  open BoundLaws 𝓑 using (B, _⊑_, _⊕_, atMostZero, ⊑-trans, Holds, holds-⊑, holds-⊕, holds-self, multiply)
 
   infix 50 _⊑_
   infixl 70 _⊕_
@@ -19,6 +20,11 @@ module _ (𝓑 : BoundLaws) where
   -- a table that is tighter in every cell holds fewer valuations
   pub in-⊑ : {n : ℕ} {T U : Table 𝓑} {k : ℕ} {v : ℕ → ℕ} → 1 ≤ k → ((i j : ℕ) → i < n → j < n → T i j ⊑ U i j) → In n T k v → In n U k v
   in-⊑ {k} {v} k₁ h p = record { at = λ i j hi hj. holds-⊑ k k₁ (v i) (v j) (h i j hi hj) (p .at i j hi hj) }
+
+  -- at a multiple of the scale, a valuation that reads so many times the same
+  pub in-multiple : {n : ℕ} {T : Table 𝓑} {k : ℕ} {u w : ℕ → ℕ} (m : ℕ) → 1 ≤ m → ((i : ℕ) → i < n → w i ≡ m * u i) → In n T k u →
+      In n T (m * k) w
+  in-multiple {T = T} {k} {u} m m₁ e p = record { at = λ i j hi hj. rw (e i hi, e j hj) (multiply m m₁ k (u i) (u j) (T i j) (p .at i j hi hj)) }
 
   pub pass-in : {n m : ℕ} {T : Table 𝓑} {k : ℕ} {v : ℕ → ℕ} → m < n → In n T k v → In n (pass 𝓑 m T) k v
   pass-in {m} {T} {k} {v} hm p = record {
@@ -41,9 +47,6 @@ module _ (𝓑 : BoundLaws) where
   -- a valuation at any scale shows that no diagonal of the closed table is negative
   pub diagonal : {n : ℕ} {T : Table 𝓑} {k : ℕ} {v : ℕ → ℕ} → 1 ≤ k → In n T k v → Ok 𝓑 n T
   diagonal {T} {k} {v} k₁ p i h = holds-self k k₁ (v i) (T i i) (p .at i i h h)
-
-  pub close-ok : {n : ℕ} {T : Table 𝓑} {k : ℕ} {v : ℕ → ℕ} → 1 ≤ k → In n T k v → Ok 𝓑 n (close 𝓑 n T)
-  close-ok k₁ p = diagonal k₁ (close-in p)
 
   -- a meet holds exactly what both tables hold
   pub meet-in : {n : ℕ} {T U : Table 𝓑} {k : ℕ} {v : ℕ → ℕ} → In n T k v → In n U k v → In n (meet 𝓑 T U) k v

@@ -50,7 +50,7 @@ split P a b f g = by (eqb a b) (eqb→eq a b) (λ e. subst (λ x. T (eqb a x)) e
     by false s t = g t
 
 module _ (𝓑 : BoundLaws) where
-  open BoundLaws 𝓑 using (B, _⊕_, ⊑-refl, ⊑-trans, ⊕-mono, ⊕-unit′, Holds, holds-⊑, self-holds, double)
+  open BoundLaws 𝓑 using (B, _⊕_, ⊑-refl, ⊑-trans, ⊕-mono, ⊕-unit′, Holds, holds-⊑, self-holds, multiply)
 
   infixl 70 _⊕_
   -- the table of the renamed clocks
@@ -95,7 +95,7 @@ module _ (𝓑 : BoundLaws) where
               (update-cases (λ y b. Holds (2 * k) place y (A m b)) u₂ ρ m place m j
               (self-holds (2 * k) (omega arith) place (A m m) (good .ok m hm)) (under j hj))
               (update-cases (λ y b. Holds (2 * k) (u₂ i) y (A (ρ i) b)) u₂ ρ m place m j (over i hi)
-              (double k (u i) (u j) (A (ρ i) (ρ j)) (p .at i j hi hj)))
+              (multiply 2 (omega arith) k (u i) (u j) (A (ρ i) (ρ j)) (p .at i j hi hj)))
 
   -- ---- all of them: a valuation of A that reads a multiple of u at the clocks that keep their names
   pub record Restored (n : ℕ) (A : Table 𝓑) (ρ : ℕ → ℕ) (k : ℕ) (u : ℕ → ℕ) : Type 0 where

@@ -2,6 +2,7 @@
 use Prim.Native.Nat.{ℕ, _≤_}
 use mathlib.Core.Path.{_≡_, sym, subst, _∙_}
 use mathlib.Core.List.{List, [], _∷_}
+use native.Mathlib.Omega.{arith}
 use borrow.Author.Needs.{needs}
 use lib.IntN.{ℤ}
 use lib.ListN.{length}
@@ -10,8 +11,8 @@ use Rattle.model.specs.Index.{Kept as ModelKept, keep, StoresFit as ModelStores
 use Rattle.table.specs.Index.{Kept, keep as keepTable, StoresFit}
 use Rattle.acceptance.specs.Judging.{Judged}
 use Rattle.judge.specs.Verdicts.{verdictAnswer}
-use Rattle.judge.specs.Reaching.{enabledKept}
-use Rattle.judge.specs.Walk.{walked, WalkAsked}
+use Rattle.judge.specs.Reaching.{limitedBelow}
+use Rattle.judge.specs.Walk.{walked}
 use Rattle.judge.specs.Findings.{findingAnswer}
 use Rattle.judge.specs.Deciding.{HandsOn}
 use Rattle.judge.proofs.FindingLaws.{found}
@@ -21,7 +22,7 @@ use Rattle.judge.proofs.Answering.{
   with-demands,
   model-refused,
   fits,
-  all-fit,
+  few-locations,
   words-refused,
   asked,
   node-refused,
@@ -95,13 +96,14 @@ told c = listed c .before .before .before .before
 
 -- the nodes are walked
 abbrev good : tie.After-walk → tie.After-enum-told2
-good c = c .before .before .before .before .before .before .before .before .before
+good c = c .before .before .before .before .before .before .before
 
--- with what the actions ask in place of their guards
+-- with which of its invariants leave something out
 walks :
     (c : tie.After-walk) → let g = good c in let m = read (told g) in
-    c .walk .result ≡ walked (list m) (enabledKept (model m)) (table (listed g)) (listed g .index-table .result)
-walks c = rw (← c .before .before .before .before .before .before .enable .ensures) (c .walk .ensures)
+    c .walk .result ≡
+    walked (list m) (model m) (limitedBelow (guards m) (m .index-model .result .index .locations)) (table (listed g)) (listed g .index-table .result)
+walks c = rw (← c .before .before .before .before .before .limited .ensures) (c .walk .ensures)
 
 -- the last checks are those of the start node
 starts :
@@ -131,20 +133,17 @@ returns-2 c =
     (words-refused _ _ _ _ (model-accepted m) (list (read m)) _ _ _ (t .index-table .ensures .1 .1) _ (c .words-refused .ensures)
     (λ q. miss (1 ∷ 2 ∷ 3 ∷ 4 ∷ []) 0 tt (rw q at (c .before .match2 .keys2))))
 
-enable-requires : tie.Need-enable-requires
-enable-requires c κs = let g = c .before .before in (all-fit _ _ _ _ (model-accepted (told g)), model-accepted (told g) .room)
+limited-requires : tie.Need-limited-requires
+limited-requires c κs =
+    let m = model-accepted (told (c .before)) in
+    let room = m .room .zones in
+    (few-locations _ _ _ _ m, record { room = omega arith })
 
 walk-requires : tie.Need-walk-requires
 walk-requires c κs =
-    let e = c .before .before .before .before .before in
-    let g = e .before .before .before in
-    let m = read (told g) in
-    subst
-    (λ (zs : List ℤ).
-    WalkAsked (list m) (keep (m .index-model .result .index) (edges m) zs) (table (listed g)) (listed g .index-table .result .count))
-    (sym (e .enable .ensures))
-    (asked _ _ _ _ (model-accepted (told g)) (list m) _ _ _ (listed g .index-table .ensures .1 .1) (g .enum-told2 .given .1)
-    (table-room (g .before .before)))
+    let g = c .before .before .before .before .before .before in
+    asked _ _ _ _ (model-accepted (told g)) (list (read (told g))) _ _ _ (listed g .index-table .ensures .1 .1) (g .enum-told2 .given .1)
+    (table-room (g .before .before))
 
 returns-3 : tie.Need-returns-3
 returns-3 c =
@@ -182,6 +181,6 @@ judge-spec =
     tie.close
     (tie.spec (λ c. search needs) (λ c. search needs) (λ c κs. search needs) (λ c. search needs) (λ c κs. search needs) returns
     (λ c. search needs) (λ c. search needs) index-table-requires (λ c. search needs) (λ c κs. search needs) returns-2 (λ c. search needs)
-    (λ c. search needs) enable-requires (λ c. search needs) (λ c. search needs) (λ c. search needs) (λ c. search needs) walk-requires
-    (λ c. search needs) (λ c κs. search needs) returns-3 (λ c. search needs) (λ c. search needs) load-requires (λ c. search needs) load-requires-2
+    limited-requires (λ c. search needs) (λ c. search needs) (λ c. search needs) (λ c. search needs) walk-requires (λ c. search needs)
+    (λ c κs. search needs) returns-3 (λ c. search needs) (λ c. search needs) load-requires (λ c. search needs) load-requires-2
     (λ c κs. search needs) returns-4)

@@ -1,5 +1,6 @@
 -- Proof of `walk`: before each node nothing was found, and judging the rest gives what the whole walk gives.
 use Prim.Native.Nat.{_-_}
+use mathlib.Core.Path.{refl}
 use native.Mathlib.Omega.{arith}
 use borrow.Author.Needs.{needs}
 use types.Run.{miss}
@@ -12,16 +13,16 @@ use Rattle.judge.proofs.walk.walk.Statement.{statement}
 use Rattle.judge.proofs.walk.walk.Tie as tie
 
 abbrev Inv-loop : tie.InvT-loop
-Inv-loop list index edges guards table nodes zones n₀ n-end n =
+Inv-loop list index edges guards limited table nodes zones n₀ n-end n =
     let m : ModelKept = keep index edges guards in
     let k : Kept = keepTable nodes zones in
-    AtNode list m k (walked list m k table) (table .whole) n-end n
+    AtNode list (table .whole) m limited k (walked list m limited k table) n-end n
 
 abbrev μ-loop : tie.MeasureT-loop
-μ-loop list index edges guards table nodes zones n₀ n-end n = n-end - n
+μ-loop list index edges guards limited table nodes zones n₀ n-end n = n-end - n
 
 loop-holds : tie.Need-loop-holds Inv-loop μ-loop
-loop-holds c = nodes-begin _ _ _ _
+loop-holds c = nodes-begin _ _ _ _ _ _ refl
 
 walk-node-requires : tie.Need-walk-node-requires Inv-loop μ-loop
 walk-node-requires c κs = c .before .before .before .before .before .pre .nodes _ (omega arith)
@@ -30,7 +31,7 @@ walk-node-requires c κs = c .before .before .before .before .before .pre .nodes
 returns : tie.Need-returns Inv-loop μ-loop
 returns c =
     let turn = c .before .before in
-    node-found _ _ _ (turn .before .loop .inv) (turn .loop-test .taken) (c .before .walk-node .ensures)
+    node-found _ _ _ _ _ (turn .before .loop .inv) (turn .loop-test .taken) (c .before .walk-node .ensures)
     (λ q. miss found 0 tt (rw q at (c .match .keys2)))
 
 add-n : tie.Need-add-n Inv-loop μ-loop
@@ -41,10 +42,10 @@ add-n c =
 loop-again : tie.Need-loop-again Inv-loop μ-loop
 loop-again c =
     let turn = c .before .before .before in
-    node-next _ _ _ (turn .before .loop .inv) (turn .loop-test .taken) (c .before .before .walk-node .ensures) (c .enum-told .given .1)
+    node-next _ _ _ _ _ (turn .before .loop .inv) (turn .loop-test .taken) (c .before .before .walk-node .ensures) (c .enum-told .given .1)
 
 returns-2 : tie.Need-returns-2 Inv-loop μ-loop
-returns-2 c = nodes-end _ _ _ (c .before .loop .inv) (c .loop-test .left)
+returns-2 c = nodes-end _ _ _ _ _ (c .before .loop .inv) (c .loop-test .left)
 
 pub walk-spec : {M : Type 1} → statement M
 walk-spec =

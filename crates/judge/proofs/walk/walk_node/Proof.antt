@@ -43,12 +43,12 @@ element-copy-out-if1 c = let l = rw (← c .before .load .ensures) at (start (c 
 returns : tie.Need-returns
 returns c =
     let k = c .before .before in
-    target-good _ _ _ _ _ (k .before .before .before .load .ensures) (k .if1 .taken) (c .if2 .taken)
+    target-good _ _ _ _ _ _ (k .before .before .before .load .ensures) (k .if1 .taken) (c .if2 .taken)
 
 returns-2 : tie.Need-returns-2
 returns-2 c =
     let k = c .before .before in
-    target-bad _ _ _ _ _ (k .before .before .before .load .ensures) (k .if1 .taken) (c .if2 .left)
+    target-bad _ _ _ _ _ _ (k .before .before .before .load .ensures) (k .if1 .taken) (c .if2 .left)
 
 add-behind : tie.Need-add-behind
 add-behind c = let p = there c in let size = start (loaded c) .good .0 .0 in omega arith
@@ -70,7 +70,7 @@ returns-3 c =
     let w = c .before .before in
     let k = w .before .before in
     c .cut-finding .ensures
-    ∙ node-cut _ _ _ _ _ (loaded k .load .ensures) (k .before .if1 .left) (sym (w .kind-of .ensures) ∙ c .before .if3 .taken)
+    ∙ node-cut _ _ _ _ _ _ (loaded k .load .ensures) (k .before .if1 .left) (sym (w .kind-of .ensures) ∙ c .before .if3 .taken)
 
 rows-finding-requires : tie.Need-rows-finding-requires
 rows-finding-requires c κs =
@@ -82,7 +82,7 @@ returns-4 c =
     let w = c .before .before in
     let k = w .before .before in
     c .rows-finding .ensures
-    ∙ node-uncut _ _ _ _ _ (loaded k .load .ensures) (k .before .if1 .left)
+    ∙ node-uncut _ _ _ _ _ _ (loaded k .load .ensures) (k .before .if1 .left)
     (λ q. c .before .if3 .left (w .kind-of .ensures ∙ q))
 
 pub walk-node-spec : {M : Type 1} → statement M

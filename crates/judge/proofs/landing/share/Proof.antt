@@ -4,8 +4,8 @@ use mathlib.Core.Path.{ap}
 use native.Mathlib.Omega.{arith}
 use borrow.Author.Needs.{needs}
 use Rattle.judge.proofs.WalkLaws.{product-small}
-use Rattle.judge.proofs.walk.share.Statement.{statement}
-use Rattle.judge.proofs.walk.share.Tie as tie
+use Rattle.judge.proofs.landing.share.Statement.{statement}
+use Rattle.judge.proofs.landing.share.Tie as tie
 
 small : (c : tie.After-weight-of) → c .weight-of .result * c .before .args .value < 2 ^ 48
 small c = product-small (c .weight-of .result) (c .before .args .value) (2 ^ 16) (2 ^ 32) (c .weight-of .ensures .1) (search needs)
