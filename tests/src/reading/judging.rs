@@ -1,10 +1,13 @@
 //! Judging a parsed table against a parsed model.
 //!
 //! Reads "Moves and schedulers" (which choices are allowed) and "When a table is accepted" of
-//! document 01: refusals 15 to 21; and what document 02, card 1, asks of a cut: refusals 51 to 53.
+//! document 01: refusals 15 to 21; what document 02, card 1, asks of a cut: refusals 51 to 53; and
+//! card 4, by which an edge that lands outside its location's invariant no longer forbids the
+//! choice, but counts as a miss.
 
-use super::model::{Action, Location, Model};
+use super::model::{Action, Edge, Location, Model};
 use super::table::{Body, Cut, Node, NodeRef, Row, Table};
+use super::words::Bound;
 use super::zones::Zone;
 use super::{Certificate, Refusal};
 
@@ -12,24 +15,31 @@ use super::{Certificate, Refusal};
 pub struct ModelZones {
     /// By location.
     invariants: Vec<Zone>,
-    /// By location and action: where the guard holds and every edge lands well.
-    enabled: Vec<Vec<Zone>>,
+    /// By location and action.
+    guards: Vec<Vec<Zone>>,
+}
+
+/// Where an edge lands, with its masked clocks set to 0: in the invariant of its location, or
+/// outside it, which is a miss (card 4).
+pub struct Landings {
+    /// The landings in the invariant.
+    pub inside: Zone,
+    /// Whether the edge can land outside: at some scale some landing is not in the invariant. From
+    /// an empty reach nothing lands, outside or inside.
+    pub can_miss: bool,
 }
 
 impl ModelZones {
     pub fn of(model: &Model) -> ModelZones {
-        let invariant = |location: &Location| Zone::of(model.clocks, &location.invariant);
-        let invariants: Vec<Zone> = model.locations.iter().map(invariant).collect();
-        let enabled_at = |location: &Location| {
+        let zone = |bounds: &[Bound]| Zone::of(model.clocks, bounds);
+        let guards_at = |location: &Location| {
             let actions = location.actions.iter();
-            actions
-                .map(|action| enabled(model.clocks, action, &invariants))
-                .collect()
+            actions.map(|action| zone(&action.guard)).collect()
         };
-        let enabled = model.locations.iter().map(enabled_at).collect();
+        let locations = &model.locations;
         ModelZones {
-            invariants,
-            enabled,
+            invariants: locations.iter().map(|at| zone(&at.invariant)).collect(),
+            guards: locations.iter().map(guards_at).collect(),
         }
     }
 
@@ -41,18 +51,21 @@ impl ModelZones {
         node_zone.meet(invariant).delay().meet(invariant)
     }
 
-    /// The reach of a row, before resets, given what delays alone attain from its node.
+    /// The reach of a row, before resets, given what delays alone attain from its node. A choice is
+    /// allowed by invariant and guard alone (card 4), so where its edges land is not asked.
     pub fn reach(&self, location: usize, action: usize, delayed: &Zone) -> Zone {
-        delayed.meet(&self.enabled[location][action])
+        delayed.meet(&self.guards[location][action])
     }
-}
 
-/// The guard holds, and each edge lands in its location's invariant after its reset.
-fn enabled(clocks: usize, action: &Action, invariants: &[Zone]) -> Zone {
-    let guard = Zone::of(clocks, &action.guard);
-    action.edges.iter().fold(guard, |zone, edge| {
-        zone.landing_in(&invariants[edge.location], edge.resets)
-    })
+    /// Where an edge lands from its row's reach.
+    pub fn landings(&self, edge: &Edge, reach: &Zone) -> Landings {
+        let landed = reach.reset(edge.resets);
+        let invariant = &self.invariants[edge.location];
+        Landings {
+            inside: landed.meet(invariant),
+            can_miss: !landed.inside(invariant),
+        }
+    }
 }
 
 /// The reach of one row, by node number and row number (which is the action's in its location).
@@ -118,7 +131,9 @@ impl Judge<'_> {
         Ok(())
     }
 
-    /// 17 and 18 successor by successor, then 19 for the row.
+    /// 17 and 18 successor by successor, then 19 for the row. Card 4: the successor's zone must hold
+    /// the landings inside the invariant only, and an edge that can land outside adds V to the sum
+    /// in place of its successor's value.
     fn successors(
         &self,
         node: &Node,
@@ -130,10 +145,15 @@ impl Judge<'_> {
         for (edge, successor) in action.edges.iter().zip(successors) {
             let next = &self.table.nodes[successor.node];
             demand(next.location == edge.location, 17, successor.place)?;
-            let landed = reach.reset(edge.resets);
-            let held = landed.inside(&self.node_zones[successor.node]);
+            let landings = self.zones.landings(edge, reach);
+            let held = landings.inside.inside(&self.node_zones[successor.node]);
             demand(held, 18, successor.place)?;
-            sum += u64::from(edge.weight) * u64::from(next.value);
+            let value = if landings.can_miss {
+                self.table.whole
+            } else {
+                next.value
+            };
+            sum += u64::from(edge.weight) * u64::from(value);
         }
         let most = u64::from(self.model.denominator) * u64::from(node.value);
         demand(sum <= most, 19, successors[0].place)

@@ -1,5 +1,6 @@
 //! An independent reading of document 01, the miss-chance judge, and of document 02: card 1, which
-//! lets a table cut a node in two, and card 3, the board of slots.
+//! lets a table cut a node in two, card 3, the board of slots, and card 4, by which a landing outside
+//! an invariant is a miss.
 //!
 //! This file holds what the calls of "The four calls and their refusals" answer, and the two that
 //! read whole files. Words are parsed into a tree (`words`, `cursor`, `model`, `table`), and the

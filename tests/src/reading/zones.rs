@@ -87,7 +87,8 @@ impl Zone {
 
     /// The valuations of this zone that are in the other once the masked clocks are set to 0 (bit 0
     /// for clock 1). Each limit of the other is one on what its clocks then read, so a masked clock
-    /// stands as clock 0; between two that read 0 it is a constant test.
+    /// stands as clock 0; between two that read 0 it is a constant test. Until card 4 of document 02
+    /// an allowed choice had to land so; judges that are wrong on purpose still ask it.
     pub fn landing_in(&self, other: &Zone, mask: u32) -> Zone {
         let mut both = *self;
         if self.empty || other.empty {

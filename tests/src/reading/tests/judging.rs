@@ -1,11 +1,11 @@
-//! Refusals 15 to 21: reach, successors, sums and the start.
+//! Refusals 15 to 21: reach, successors, sums and the start. Where edges land: see `landings`.
 
 use super::*;
 use crate::reading::{parse_model, parse_table, reach_of_row, Zone};
 
 /// A model of two clocks with one action: location 0 (`invariant`, `guard`) to location 1
 /// (`landing`) by one edge with this reset mask.
-fn one_edge(invariant: &[u32], guard: &[u32], resets: u32, landing: &[u32]) -> Vec<u32> {
+pub fn one_edge(invariant: &[u32], guard: &[u32], resets: u32, landing: &[u32]) -> Vec<u32> {
     let head: &[u32] = &[0x11200001, 0x20000000];
     let edge: &[u32] = &[0x40010001 | resets << 20, 0x20000000];
     [
@@ -28,8 +28,8 @@ fn two_nodes(zone: &[u32], row: u32, successor: &[u32]) -> Vec<u32> {
     [head, zone, &[0x90000000, row, 0x81000000], successor, tail].concat()
 }
 
-const TO_1: u32 = 0xB0000001;
-const BLOCKED: u32 = 0xA0000000;
+pub const TO_1: u32 = 0xB0000001;
+pub const BLOCKED: u32 = 0xA0000000;
 
 #[test]
 fn the_reach_of_m() {
@@ -103,51 +103,6 @@ fn resets_come_after_the_guard() {
     assert_eq!(
         judge(&model, &two_nodes(&equal, TO_1, &[below(0, 2, -2)])),
         refused(18, 5)
-    );
-}
-
-#[test]
-fn each_edge_must_land_in_its_invariant() {
-    // Unreset clock: the landing invariant bounds the reach.
-    let model = one_edge(&[], &[], 0, &[at_most(1, 0, 4)]);
-    assert_eq!(
-        judge(&model, &two_nodes(&[], TO_1, &[at_most(1, 0, 4)])),
-        accepted(0, 1, 2)
-    );
-    assert_eq!(
-        judge(&model, &two_nodes(&[], TO_1, &[below(1, 0, 4)])),
-        refused(18, 3)
-    );
-    // A reset clock makes it a constant test: 0 at most 0 holds, 0 below 0 and 0 from 1 on fail.
-    let lands = |landing: u32| {
-        judge(
-            &one_edge(&[], &[], 1, &[landing]),
-            &two_nodes(&[], BLOCKED, &[]),
-        )
-    };
-    assert_eq!(lands(at_most(1, 0, 0)), refused(16, 3));
-    assert_eq!(lands(at_most(0, 1, 0)), refused(16, 3));
-    assert_eq!(lands(at_most(1, 0, -1)), accepted(0, 1, 2));
-    assert_eq!(lands(below(1, 0, 0)), accepted(0, 1, 2));
-    assert_eq!(lands(at_most(0, 1, -1)), accepted(0, 1, 2));
-    assert_eq!(lands(below(0, 1, 0)), accepted(0, 1, 2));
-    // The other clock is not reset, so it is the one tested.
-    assert_eq!(lands(at_most(2, 0, 4)), refused(16, 3));
-}
-
-#[test]
-fn an_edge_to_a_target_must_land_too() {
-    // The target of M cannot be entered before 5, and the invariant ends at 3.
-    let model = splice(&M, 9..9, &[at_most(0, 1, -5)]);
-    assert_eq!(
-        judge(&model, &splice(&T, 4..6, &[BLOCKED])),
-        accepted(1, 10, 3)
-    );
-    // Both edges count: the first would land.
-    let other = splice(&M, 8..8, &[at_most(0, 1, -5)]);
-    assert_eq!(
-        judge(&other, &splice(&T, 4..6, &[BLOCKED])),
-        accepted(1, 10, 3)
     );
 }
 

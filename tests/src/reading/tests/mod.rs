@@ -4,6 +4,7 @@
 mod board;
 mod cuts;
 mod judging;
+mod landings;
 mod model;
 mod program;
 mod table;
