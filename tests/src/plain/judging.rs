@@ -1,11 +1,11 @@
 //! Judging a table that is read: refusals 15 to 21 and 51 to 53.
 
-use super::model::{Action, Model};
+use super::model::{Action, Edge, Model};
 use super::table::{number_of, Node, Table, BLOCKED, CUT};
 use super::zone::Zone;
 use super::{demand, Certificate, Refusal};
 
-/// The guards of the model have their landings; `words` are the table's.
+/// `words` are the table's.
 pub fn judge_table(model: &Model, table: &Table, words: &[u32]) -> Result<Certificate, Refusal> {
     let judge = Judge {
         model,
@@ -95,12 +95,32 @@ impl Judge<'_> {
         for (place, edge) in (first..).zip(edges) {
             let next = &self.table.nodes[number_of(self.words[place])];
             demand(next.location == edge.location(), 17, place)?;
-            let held =
-                empty || reach.inside_after_reset(self.model.clocks, edge.resets(), &next.zone);
+            let (missed, held) = if empty {
+                (false, true)
+            } else {
+                self.landing(edge, reach, &next.zone)
+            };
             demand(held, 18, place)?;
-            sum += u64::from(edge.weight()) * u64::from(next.value);
+            let value = if missed { self.table.whole } else { next.value };
+            sum += u64::from(edge.weight()) * u64::from(value);
         }
         let most = u64::from(self.model.denominator) * u64::from(node.value);
         demand(sum <= most, 19, first)
+    }
+
+    /// From a reach that is not empty: whether the edge can land outside the invariant of its
+    /// location, and whether the next zone holds what lands inside. What lands inside is that part of
+    /// the reach, reset.
+    fn landing(&self, edge: &Edge, reach: &Zone, next: &Zone) -> (bool, bool) {
+        let (clocks, resets) = (self.model.clocks, edge.resets());
+        let to = &self.model.locations[edge.location()];
+        if !to.bounded || reach.lands_inside(&to.invariant, resets) {
+            return (false, reach.inside_after_reset(clocks, resets, next));
+        }
+        let mut part = *reach;
+        part.land(&to.invariant, resets);
+        part.tighten(clocks);
+        let held = part.is_empty() || part.inside_after_reset(clocks, resets, next);
+        (true, held)
     }
 }

@@ -46,7 +46,6 @@ pub fn judge(model_words: &[u32], table_words: &[u32]) -> Result<Certificate, Re
     model.read(model_words)?;
     let mut table = Table::new();
     table.read(&model, table_words)?;
-    model.add_landings();
     judge_table(&model, &table, table_words)
 }
 

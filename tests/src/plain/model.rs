@@ -9,6 +9,7 @@ const HEAD: u32 = 1;
 const LOCATION: u32 = 2;
 const ACTION: u32 = 3;
 const EDGE: u32 = 4;
+const BOUND: u32 = 5;
 const START: u32 = 6;
 
 /// By the last word that is no bound: a bit for each other kind that may follow.
@@ -37,6 +38,8 @@ pub struct Model {
 pub struct Location {
     pub target: bool,
     pub invariant: Zone,
+    /// Whether the invariant has any bound.
+    pub bounded: bool,
     pub first: usize,
     pub end: usize,
 }
@@ -114,7 +117,11 @@ impl Model {
     /// The bounds behind a word of this kind, if it may have some; hands back the place behind them.
     fn take_bounds(&mut self, opener: u32, words: &[u32], place: usize) -> Result<usize, Refusal> {
         let zone = match opener {
-            LOCATION => &mut self.locations.newest().invariant,
+            LOCATION => {
+                let location = self.locations.newest();
+                location.bounded = words.get(place).is_some_and(|next| next >> 28 == BOUND);
+                &mut location.invariant
+            }
             ACTION => &mut self.actions.newest().guard,
             START => &mut self.start.zone,
             _ => return Ok(place),
@@ -167,6 +174,7 @@ impl Model {
             LOCATION => self.locations.push(Location {
                 target: word & 1 == 1,
                 invariant: Zone::ALL,
+                bounded: false,
                 first: actions,
                 end: actions,
             }),
@@ -194,15 +202,5 @@ impl Model {
         self.start.zone.meet(invariant);
         self.start.zone.tighten(self.clocks);
         demand(!self.start.zone.is_empty(), 6, self.start.place)
-    }
-
-    /// From now on a guard also says that every edge lands in its location's invariant.
-    pub fn add_landings(&mut self) {
-        for action in self.actions.iter_mut() {
-            for edge in &self.edges[action.first..action.end] {
-                let invariant = &self.locations[edge.location()].invariant;
-                action.guard.land(invariant, edge.resets());
-            }
-        }
     }
 }

@@ -133,6 +133,15 @@ impl Zone {
         }
     }
 
+    /// Whether a zone that is tightened and not empty lies in an invariant once the masked clocks are
+    /// set to 0.
+    pub fn lands_inside(&self, invariant: &Zone, mask: u32) -> bool {
+        let mut sources = sources(mask).into_iter().enumerate().skip(1);
+        sources.all(|(clock, source)| {
+            self.0[source][0] <= invariant.0[clock][0] && self.0[0][source] <= invariant.0[0][clock]
+        })
+    }
+
     /// Whether a zone that is tightened and not empty lies inside another once the masked clocks
     /// are set to 0: a masked clock then has the bounds of clock 0.
     pub fn inside_after_reset(&self, clocks: u32, mask: u32, other: &Zone) -> bool {
