@@ -41,6 +41,7 @@ pub mod self_check;
 pub mod shapes;
 pub mod sides;
 pub mod spell;
+pub mod sums;
 pub mod witness;
 pub mod worked;
 pub mod wrong;

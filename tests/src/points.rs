@@ -1,20 +1,25 @@
 //! Valuations one by one. At scale k each clock counts whole k-ths of a time unit. No zone is worked
 //! out here: bounds are evaluated, nothing else.
 //!
-//! How far to look. Let L be the largest size of a `d` in all bounds in play. Put 0, the clocks and,
-//! if there is a delay t, minus t as points on a line: every bound, before the delay or after it,
-//! with clocks reset or not, is one on the difference of two of these points. Where two neighbours
-//! are more than kL + 1 apart, move what lies beyond the gap until they are exactly that: each
-//! difference across the gap stays beyond kL, so every bound holds or fails as before. Between 0 and
-//! the largest clock there are at most C gaps, between minus t and 0 one. So if anything is found at
-//! this scale, it is found with clocks up to C(kL + 1) and a delay up to kL + 1.
+//! How far to look. Let L be the largest size of a `d` in all bounds in play: of the zones, the
+//! guards, and the invariants of all locations, those that edges land in among them. Put 0, the clocks
+//! and, if there is a delay t, minus t as points on a line: every bound, before the delay or after it,
+//! with clocks reset or not, is one on the difference of two of these points, or of a point and
+//! itself, since after the delay a clock's point is read from minus t, and a reset clock reads 0.
+//! Where two neighbours are more than kL + 1 apart, move what lies beyond the gap until they are
+//! exactly that: each difference across the gap stays beyond kL, so every bound holds or fails as
+//! before. Between 0 and the largest clock there are at most C gaps, between minus t and 0 one. So if
+//! anything is found at this scale, it is found with clocks up to C(kL + 1) and a delay up to kL + 1.
+//! Since bounds fail as before, too, this goes for what must be outside a zone or, with card 4 of
+//! document 02, outside an invariant: some bound of it fails.
 //!
 //! Which scale is enough. C clocks and minus t have at most C + 1 different fractional parts other
 //! than 0. Spread these in their order over the (C + 2)-ths: each difference keeps its whole part and
 //! stays whole or not whole, so every bound holds or fails as before. So what is found at any scale
-//! is found at scale C + 2 with a delay, and at scale C + 1 without.
+//! is found at scale C + 2 with a delay, and at scale C + 1 without. A landing adds no point, so that
+//! it needs no larger scale, inside or outside.
 
-use crate::reading::{Action, Bound, Model};
+use crate::reading::{Bound, Edge, Model};
 
 /// The readings of clock 0, which is 0, and of clocks 1 to 4.
 pub type Valuation = [i64; 5];
@@ -52,13 +57,10 @@ pub fn after_reset(clocks: &Valuation, mask: u32) -> Valuation {
     after
 }
 
-/// The guard holds and each edge lands in its location's invariant.
-pub fn enabled(model: &Model, scale: i64, action: &Action, clocks: &Valuation) -> bool {
-    all_hold(&action.guard, scale, clocks)
-        && action.edges.iter().all(|edge| {
-            let invariant = &model.locations[edge.location].invariant;
-            all_hold(invariant, scale, &after_reset(clocks, edge.resets))
-        })
+/// Whether an edge that is taken at these readings lands in the invariant of its location.
+pub fn lands_inside(model: &Model, scale: i64, edge: &Edge, clocks: &Valuation) -> bool {
+    let invariant = &model.locations[edge.location].invariant;
+    all_hold(invariant, scale, &after_reset(clocks, edge.resets))
 }
 
 /// The largest size of a `d` among these bounds.

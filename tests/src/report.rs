@@ -87,18 +87,23 @@ pub fn evidence(evidence: &Evidence, tally: &Tally) -> String {
             tally.accepted_with_cut, evidence.played_with_cut, evidence.claims_of_cut
         ),
         format!(
-            "played tables refuted when the start's value is lowered by one: {}",
-            evidence.tight
+            "played tables with a landing outside: {}, of these with none at scale 1: {}; rows accepted with V for an edge that lands outside: {}",
+            evidence.played_with_miss, evidence.missed_between_ticks, evidence.sums_with_miss
+        ),
+        format!(
+            "played tables refuted when the start's value is lowered by one: {}, of these with a landing outside: {}",
+            evidence.tight, evidence.tight_with_miss
         ),
         format!(
             "their rows, parts and starts searched for a witness in vain: {}, left out as too large: {}",
             evidence.fruitless, evidence.fruitless_left_out
         ),
         format!(
-            "refusals with a witness found: {}; left out as too large: {}; by first scale: {}",
+            "refusals with a witness found: {}; left out as too large: {}; by first scale: {}; refusals 19 by the values alone: {}",
             listed(&evidence.witnesses),
             listed(&evidence.witnesses_left_out),
-            listed(&evidence.first_scales)
+            listed(&evidence.first_scales),
+            evidence.too_large_by_values
         ),
         format!(
             "zone questions answered by trying valuations: {}, left out as too large: {}",
@@ -148,11 +153,30 @@ pub fn lacks(tally: &Tally, evidence: &Evidence) -> Vec<String> {
         let count = tally.answers.get(&(call, answer)).copied().unwrap_or(0);
         (count, 1, format!("answers of {call} {answer:?}"))
     });
-    let witnessed = [16, 18, 21, 53].map(|number| {
+    let witnessed = [16, 18, 19, 21, 53].map(|number| {
         let count = evidence.witnesses.get(&number).copied().unwrap_or(0);
         (count, 1, format!("witnesses for {number}"))
     });
-    let others = [
+    let others = due_of_all(tally).map(|(count, least, what)| (count, least, what.to_string()));
+    let tried =
+        due_of_evidence(evidence).map(|(count, least, what)| (count, least, what.to_string()));
+    let boards = due_of_boards(tally).map(|(count, least, what)| (count, least, what.to_string()));
+    let all = refused
+        .into_iter()
+        .chain(answered)
+        .chain(witnessed)
+        .chain(others)
+        .chain(tried)
+        .chain(boards);
+    let short = all.filter(|(count, least, _)| count < least);
+    short
+        .map(|(count, least, what)| format!("{what}: {count} where {least} are due"))
+        .collect()
+}
+
+/// What the comparisons must have met, and how often at least.
+fn due_of_all(tally: &Tally) -> [(usize, usize, &'static str); 4] {
+    [
         (agreed(tally, UNDER_TEST), 100_000, "comparisons"),
         (
             agreed(tally, PLAIN),
@@ -161,24 +185,38 @@ pub fn lacks(tally: &Tally, evidence: &Evidence) -> Vec<String> {
         ),
         (tally.of_call("program"), 5000, "program runs"),
         (tally.accepted_with_cut, 1000, "accepted tables with a cut"),
+    ]
+}
+
+/// What must have been tried out, and how often at least.
+fn due_of_evidence(evidence: &Evidence) -> [(usize, usize, &'static str); 9] {
+    [
         (evidence.played, 1000, "tables played"),
         (evidence.played_with_cut, 1000, "tables with a cut played"),
+        (
+            evidence.played_with_miss,
+            1000,
+            "tables with a landing outside played",
+        ),
+        (
+            evidence.missed_between_ticks,
+            50,
+            "tables with landings outside at scales above 1 only",
+        ),
+        (
+            evidence.sums_with_miss,
+            1000,
+            "rows with an edge that lands outside",
+        ),
         (evidence.tight, 100, "bounds found to be tight"),
+        (
+            evidence.tight_with_miss,
+            100,
+            "bounds with a landing outside found to be tight",
+        ),
         (evidence.fruitless, 1000, "accepted rows searched"),
         (evidence.zones, 1000, "zone questions tried out"),
     ]
-    .map(|(count, least, what)| (count, least, what.to_string()));
-    let boards = due_of_boards(tally).map(|(count, least, what)| (count, least, what.to_string()));
-    let all = refused
-        .into_iter()
-        .chain(answered)
-        .chain(witnessed)
-        .chain(others)
-        .chain(boards);
-    let short = all.filter(|(count, least, _)| count < least);
-    short
-        .map(|(count, least, what)| format!("{what}: {count} where {least} are due"))
-        .collect()
 }
 
 /// What the boards must have met, and how often at least.
@@ -219,6 +257,6 @@ mod tests {
     #[test]
     fn an_idle_run_lacks_everything() {
         let lacks = lacks(&Tally::default(), &Evidence::default());
-        assert_eq!(lacks.len(), REFUSALS.len() + ANSWERS.len() + 4 + 9 + 13);
+        assert_eq!(lacks.len(), REFUSALS.len() + ANSWERS.len() + 5 + 4 + 9 + 13);
     }
 }

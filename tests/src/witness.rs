@@ -1,22 +1,22 @@
-//! Concrete witnesses for refusals 16, 18, 21 and 53: a valuation, and for the first two a delay, at
-//! some scale, found by trying them one after the other (see `points` for how far and at which scales).
+//! Concrete witnesses for refusals 16, 18, 19 (see `sums`), 21 and 53: a valuation, and for the first
+//! three a delay, at some scale, found by trying them one after the other (see `points` for how far
+//! and at which scales).
 
 use std::ops::RangeInclusive;
 
 use crate::points::{
-    after_delay, after_reset, all_hold, enabled, holds, largest, largest_of_model,
+    after_delay, after_reset, all_hold, holds, lands_inside, largest, largest_of_model,
 };
 use crate::points::{Grid, Valuation};
 use crate::reading::{Action, Bound, Edge, Model, Node, Refusal, Row, Table};
 
 /// What would show that a table is rightly refused.
 pub enum Quest<'a> {
-    /// 16, without a successor: from the node's zone the action is possible. 18: and the edge lands
-    /// outside the successor's zone.
+    /// From the node's zone the action is allowed, by invariant and guard alone, and lands like this.
     Row {
         node: &'a Node,
         action: &'a Action,
-        landing: Option<(u32, &'a [Bound])>,
+        landing: Landing<'a>,
     },
     /// 53: a valuation of the node's zone, with the cut's bound holding there or not, outside the
     /// zone of the node for that part.
@@ -30,6 +30,17 @@ pub enum Quest<'a> {
     Start { zone: &'a [Bound] },
 }
 
+/// Where a choice lands that is a witness.
+#[derive(Clone, Copy)]
+pub enum Landing<'a> {
+    /// 16: anywhere.
+    Anywhere,
+    /// 18: by this edge in the invariant of its location, and outside this zone, its successor's.
+    Lost(&'a Edge, &'a [Bound]),
+    /// 19, where it adds V: by this edge outside the invariant of its location.
+    Missed(&'a Edge),
+}
+
 #[derive(Clone, Copy, Debug)]
 pub struct Witness {
     pub scale: i64,
@@ -41,7 +52,13 @@ pub struct Witness {
 impl Quest<'_> {
     /// Whether it belongs to a blocked row.
     fn blocked(&self) -> bool {
-        matches!(self, Quest::Row { landing: None, .. })
+        matches!(
+            self,
+            Quest::Row {
+                landing: Landing::Anywhere,
+                ..
+            }
+        )
     }
 }
 
@@ -61,7 +78,8 @@ pub fn quest_of<'a>(model: &'a Model, table: &'a Table, refusal: &Refusal) -> Op
     .map(|(_, quest)| quest)
 }
 
-/// All quests of a table, none of which may succeed if it is accepted.
+/// All quests of a table that its refusals 16, 18, 21 and 53 call for; none may succeed if it is
+/// accepted.
 pub fn all_quests<'a>(model: &'a Model, table: &'a Table) -> Vec<Quest<'a>> {
     let rows = row_quests(model, table);
     rows.into_iter()
@@ -115,13 +133,13 @@ fn row_quests<'a>(model: &'a Model, table: &'a Table) -> Vec<(usize, Quest<'a>)>
                     Quest::Row {
                         node,
                         action,
-                        landing: None,
+                        landing: Landing::Anywhere,
                     },
                 )),
                 Row::Successors(successors) => {
                     for (edge, successor) in action.edges.iter().zip(successors) {
                         let zone = &table.nodes[successor.node].bounds[..];
-                        let landing = Some((edge.resets, zone));
+                        let landing = Landing::Lost(edge, zone);
                         quests.push((
                             successor.place,
                             Quest::Row {
@@ -163,14 +181,10 @@ impl Quest<'_> {
         let own = match self {
             Quest::Row {
                 node,
-                landing: None,
-                ..
-            } => largest(&node.bounds),
-            Quest::Row {
-                node,
-                landing: Some((_, zone)),
+                landing: Landing::Lost(_, zone),
                 ..
             } => largest(node.bounds.iter().chain(*zone)),
+            Quest::Row { node, .. } => largest(&node.bounds),
             Quest::Part {
                 node, bound, zone, ..
             } => largest(node.bounds.iter().chain([bound]).chain(*zone)),
@@ -209,24 +223,7 @@ impl Quest<'_> {
                 node,
                 action,
                 landing,
-            } => {
-                let bounds = state_bounds(model, node);
-                let mut delay = None;
-                let found = grid.find(&bounds, &mut |clocks| {
-                    let good = |after: &Valuation| {
-                        enabled(model, scale, action, after) && outside(landing, scale, after)
-                    };
-                    let invariant = &model.locations[node.location].invariant;
-                    let delays = 0..=scale * constant + 1;
-                    delay = first_delay(invariant, model.clocks, scale, clocks, delays, good);
-                    delay.is_some()
-                });
-                found.zip(delay).map(|(clocks, delay)| Witness {
-                    scale,
-                    clocks,
-                    delay,
-                })
-            }
+            } => search_row(model, &grid, node, action, landing),
         }
     }
 
@@ -252,18 +249,61 @@ impl Quest<'_> {
             } => {
                 let invariant = &model.locations[node.location].invariant;
                 let later = |delay| after_delay(clocks, model.clocks, delay);
-                let landed = |mask| after_reset(&later(witness.delay), mask);
                 let invariant_kept = (0..=witness.delay).all(|delay| met(invariant, &later(delay)));
+                let landed = |edge: &Edge| after_reset(&later(witness.delay), edge.resets);
                 let lands = |edge: &Edge| {
                     let invariant = &model.locations[edge.location].invariant;
-                    met(invariant, &landed(edge.resets))
+                    met(invariant, &landed(edge))
                 };
                 met(&node.bounds, clocks)
                     && invariant_kept
                     && met(&action.guard, &later(witness.delay))
-                    && action.edges.iter().all(lands)
-                    && landing.is_none_or(|(mask, zone)| !met(zone, &landed(mask)))
+                    && match landing {
+                        Landing::Anywhere => true,
+                        Landing::Lost(edge, zone) => lands(edge) && !met(zone, &landed(edge)),
+                        Landing::Missed(edge) => !lands(edge),
+                    }
             }
+        }
+    }
+}
+
+/// Tries all states of the node's zone in the box, and from each of them all delays.
+fn search_row(
+    model: &Model,
+    grid: &Grid,
+    node: &Node,
+    action: &Action,
+    landing: &Landing,
+) -> Option<Witness> {
+    let (scale, clocks) = (grid.scale, model.clocks);
+    let invariant = &model.locations[node.location].invariant;
+    let longest = grid.limit / clocks as i64;
+    let good = |after: &Valuation| {
+        all_hold(&action.guard, scale, after) && landing.met(model, scale, after)
+    };
+    let mut delay = None;
+    let found = grid.find(&state_bounds(model, node), &mut |state| {
+        delay = first_delay(invariant, clocks, scale, state, 0..=longest, good);
+        delay.is_some()
+    });
+    found.zip(delay).map(|(clocks, delay)| Witness {
+        scale,
+        clocks,
+        delay,
+    })
+}
+
+impl Landing<'_> {
+    /// Whether a choice that attains these readings lands so.
+    fn met(&self, model: &Model, scale: i64, clocks: &Valuation) -> bool {
+        match self {
+            Landing::Anywhere => true,
+            Landing::Lost(edge, zone) => {
+                let landed = after_reset(clocks, edge.resets);
+                lands_inside(model, scale, edge, clocks) && !all_hold(zone, scale, &landed)
+            }
+            Landing::Missed(edge) => !lands_inside(model, scale, edge, clocks),
         }
     }
 }
@@ -308,9 +348,4 @@ fn first_delay(
         }
     }
     None
-}
-
-/// Whether the edge lands outside the successor's zone; true where no successor is given.
-fn outside(landing: &Option<(u32, &[Bound])>, scale: i64, clocks: &Valuation) -> bool {
-    landing.is_none_or(|(mask, zone)| !all_hold(zone, scale, &after_reset(clocks, mask)))
 }
