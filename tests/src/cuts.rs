@@ -136,7 +136,8 @@ impl Cutter<'_> {
         }
         let mut successors = Vec::new();
         for (edge, &old) in action.edges.iter().zip(row) {
-            let holding = self.holding(edge.location, &reach.reset(edge.resets));
+            let landings = self.zones.landings(edge, reach);
+            let holding = self.holding(edge.location, &landings.inside);
             successors.push(if holding.is_empty() {
                 old
             } else {

@@ -1,7 +1,8 @@
 //! A table before it is spelled out in words, and values that make its sums hold.
 
 use crate::random::Random;
-use crate::reading::{Action, Bound, Model};
+use crate::reading::judging::ModelZones;
+use crate::reading::{Action, Bound, Model, Zone};
 use crate::spell;
 
 #[derive(Clone, Debug)]
@@ -93,8 +94,9 @@ impl Draft {
     /// Raises the values until every sum holds. Where rounding up creeps for too long, all values
     /// become V, which no sum can pass.
     pub fn settle_values(&mut self, model: &Model) {
+        let misses = self.misses(model);
         for _ in 0..200 {
-            if !self.raise_once(model) {
+            if !self.raise_once(model, &misses) {
                 return;
             }
         }
@@ -104,10 +106,10 @@ impl Draft {
     }
 
     /// One round over all nodes; says whether a value was raised.
-    fn raise_once(&mut self, model: &Model) -> bool {
+    fn raise_once(&mut self, model: &Model, misses: &[Misses]) -> bool {
         let mut raised = false;
-        for number in 0..self.nodes.len() {
-            let needed = self.needed_value(model, number);
+        for (number, misses) in misses.iter().enumerate() {
+            let needed = self.needed_value(model, number, misses);
             if self.nodes[number].value < needed {
                 self.nodes[number].value = needed;
                 raised = true;
@@ -118,7 +120,7 @@ impl Draft {
 
     /// The least value that the node's rows or parts allow, given the values of the nodes that they
     /// name.
-    fn needed_value(&self, model: &Model, number: usize) -> u32 {
+    fn needed_value(&self, model: &Model, number: usize, misses: &Misses) -> u32 {
         let node = &self.nodes[number];
         let location = &model.locations[node.location];
         if location.target {
@@ -126,8 +128,8 @@ impl Draft {
         }
         match &node.body {
             DraftBody::Rows(rows) => {
-                let rows = location.actions.iter().zip(rows);
-                rows.map(|(action, row)| self.row_value(model, action, row))
+                let rows = location.actions.iter().zip(rows).zip(misses);
+                rows.map(|((action, row), misses)| self.row_value(model, action, row, misses))
                     .max()
                     .unwrap_or(0)
             }
@@ -137,16 +139,41 @@ impl Draft {
         }
     }
 
-    /// The row's sum divided by D, rounded up.
-    fn row_value(&self, model: &Model, action: &Action, row: &[usize]) -> u32 {
-        let value = |&node: &usize| u64::from(self.nodes[node].value);
-        let terms = action.edges.iter().zip(row.iter().map(value));
-        let sum: u64 = terms
-            .map(|(edge, value)| u64::from(edge.weight) * value)
-            .sum();
+    /// The row's sum divided by D, rounded up. An edge that can land outside adds V.
+    fn row_value(&self, model: &Model, action: &Action, row: &[usize], misses: &[bool]) -> u32 {
+        let mut sum = 0;
+        for ((edge, &node), &missed) in action.edges.iter().zip(row).zip(misses) {
+            let value = if missed {
+                self.whole
+            } else {
+                self.nodes[node].value
+            };
+            sum += u64::from(edge.weight) * u64::from(value);
+        }
         sum.div_ceil(u64::from(model.denominator)) as u32
     }
+
+    /// Which edges can land outside, by node.
+    pub fn misses(&self, model: &Model) -> Vec<Misses> {
+        let zones = ModelZones::of(model);
+        let of_node = |node: &DraftNode| {
+            let zone = Zone::of(model.clocks, &node.bounds);
+            let delayed = zones.delayed(node.location, &zone);
+            let actions = &model.locations[node.location].actions;
+            let of_action = |(number, action): (usize, &Action)| {
+                let reach = zones.reach(node.location, number, &delayed);
+                let edges = action.edges.iter();
+                let can_miss = edges.map(|edge| zones.landings(edge, &reach).can_miss);
+                can_miss.collect()
+            };
+            actions.iter().enumerate().map(of_action).collect()
+        };
+        self.nodes.iter().map(of_node).collect()
+    }
 }
+
+/// By action and edge of a node's location: whether the edge can land outside from the node.
+pub type Misses = Vec<Vec<bool>>;
 
 /// V: small, round, or as large as its field allows.
 pub fn random_whole(random: &mut Random) -> u32 {

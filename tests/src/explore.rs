@@ -1,6 +1,6 @@
-//! Tables by forward exploration: from the start zone on, each row's reset reach is put into a node,
-//! an old one, a new one or one made larger, until all nodes hold what lands in them. Then some nodes
-//! are cut.
+//! Tables by forward exploration: from the start zone on, what each edge lands on inside the invariant
+//! of its location is put into a node, an old one, a new one or one made larger, until all nodes hold
+//! what lands in them. Then some nodes are cut.
 //!
 //! The zones are those of the independent reading. Nothing rests on them being right: what is made
 //! here is only an input, and a table that should not be accepted is as good a one.
@@ -91,7 +91,8 @@ impl<'a> Explorer<'a> {
             let mut row = Vec::new();
             if !reach.is_empty() {
                 for edge in &action.edges {
-                    row.push(self.node_for(edge.location, &reach.reset(edge.resets)));
+                    let landings = self.zones.landings(edge, &reach);
+                    row.push(self.node_for(edge.location, &landings.inside));
                 }
             }
             rows.push(row);
@@ -103,10 +104,13 @@ impl<'a> Explorer<'a> {
         Zone::of(self.model.clocks, &self.nodes[number].bounds)
     }
 
-    /// A node of this location whose zone holds what landed.
+    /// A node of this location whose zone holds what landed; any where nothing did.
     fn node_for(&mut self, location: usize, landed: &Zone) -> usize {
         let here = |number: &usize| self.nodes[*number].location == location;
         let candidates: Vec<usize> = (0..self.nodes.len()).filter(here).collect();
+        if landed.is_empty() && !candidates.is_empty() {
+            return self.random.pick(&candidates);
+        }
         let holding = candidates
             .iter()
             .find(|&&number| landed.inside(&self.zone(number)));
