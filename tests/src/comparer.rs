@@ -3,6 +3,7 @@
 use std::collections::BTreeMap;
 use std::fmt::{self, Debug};
 
+use crate::flawed::{flawed_judge, Flaw};
 use crate::histories::{self, Asks, Board, BoardTally, Submission};
 use crate::reading::{words, Certificate, Counts, Refusal, Slot};
 use crate::sides::{Plain, Reading, Side};
@@ -29,6 +30,11 @@ pub enum Answer {
 }
 
 impl Answer {
+    fn of<T>(answer: &Result<T, Refusal>, accepted: impl Fn(&T) -> Answer) -> Answer {
+        let refused = |refusal: &Refusal| Answer::Refused(refusal.number);
+        answer.as_ref().map_or_else(refused, accepted)
+    }
+
     fn to_question(yes: &bool) -> Answer {
         if *yes {
             Answer::Yes
@@ -45,6 +51,8 @@ pub struct Tally {
     pub answers: BTreeMap<(&'static str, Answer), usize>,
     /// Judged tables that were accepted and have a cut.
     pub accepted_with_cut: usize,
+    /// Judged tables whose answer card 4 changed, by the answer before it and the answer now.
+    pub changed: BTreeMap<(Answer, Answer), usize>,
     pub boards: BoardTally,
     /// By side: answers that were the reading's.
     pub agreed: BTreeMap<&'static str, usize>,
@@ -106,7 +114,35 @@ impl<'a> Comparer<'a> {
         // In a table that is accepted, only a cut has a word of this kind.
         let has_cut = table.iter().any(|&word| words::kind(word) == words::CUT);
         self.tally.accepted_with_cut += usize::from(judged.is_ok() && has_cut);
+        self.count_change(model, table, &judged)?;
         Ok(judged)
+    }
+
+    /// Counts answers that card 4 changed. It took choices from none and values from no sum: what is
+    /// accepted now was accepted before.
+    fn count_change(
+        &mut self,
+        model: &[u32],
+        table: &[u32],
+        now: &Result<Certificate, Refusal>,
+    ) -> Result<(), Fault> {
+        if now.is_err_and(|refusal| refusal.number < 15) {
+            return Ok(());
+        }
+        let before = flawed_judge(Flaw::ForbidsLandingsOutside, model, table);
+        if before == *now {
+            return Ok(());
+        }
+        if now.is_ok() {
+            let input = written(&[("model", model), ("table", table)]);
+            return Err(Fault(format!(
+                "accepted with card 4 and not before it\n{input}"
+            )));
+        }
+        let answers = [before, *now].map(|answer| Answer::of(&answer, |_| Answer::Accepted));
+        let [before, now] = answers;
+        *self.tally.changed.entry((before, now)).or_default() += 1;
+        Ok(())
     }
 
     pub fn read_model(&mut self, model: &[u32]) -> Same<Counts> {
@@ -165,9 +201,7 @@ impl<'a> Comparer<'a> {
         same: &Result<T, Refusal>,
         accepted: impl Fn(&T) -> Answer,
     ) {
-        let refused = |refusal: &Refusal| Answer::Refused(refusal.number);
-        let answer = same.as_ref().map_or_else(refused, accepted);
-        self.tally.count(call, answer);
+        self.tally.count(call, Answer::of(same, accepted));
     }
 
     /// The reading's answer, if the others give the same.

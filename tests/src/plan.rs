@@ -117,11 +117,11 @@ impl<'a> Run<'a> {
         histories::compare(&mut self.comparer, &mut self.random_boards, work.boards)
     }
 
-    /// Document 01's own cases, and those of card 1.
+    /// Document 01's own cases, and those of cards 1 and 4.
     fn worked_cases(&mut self) -> Result<(), Fault> {
         worked::check(self.comparer.under_test)?;
         worked::check(self.comparer.plain)?;
-        for case in worked::cases().into_iter().chain(worked::cuts()) {
+        for case in worked::all() {
             self.model(&case.model)?;
             self.played_pair(&case.model, &case.table)?;
         }

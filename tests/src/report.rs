@@ -45,7 +45,7 @@ pub fn comparisons(tally: &Tally) -> String {
         let of_call = tally.answers.iter().filter(|((name, _), _)| *name == call);
         let answers = of_call.map(|((_, answer), count)| match answer {
             Answer::Refused(number) => format!("{number}: {count}"),
-            _ => format!("{answer:?} {count}").to_lowercase(),
+            _ => format!("{} {count}", named(answer)),
         });
         let answers: Vec<String> = answers.collect();
         let _ = writeln!(
@@ -57,12 +57,35 @@ pub fn comparisons(tally: &Tally) -> String {
     }
     let _ = writeln!(
         text,
+        "{:<12}{:>8}  {}",
+        "changed",
+        tally.changed.values().sum::<usize>(),
+        changes(tally)
+    );
+    let _ = writeln!(
+        text,
         "{:<12}{:>8}  no difference from the reading: {}",
         "together",
         tally.total(),
         listed(&tally.agreed)
     );
     text
+}
+
+/// The answers that card 4 changed: before, now, how often.
+fn changes(tally: &Tally) -> String {
+    let changes = tally.changed.iter().map(|((before, now), count)| {
+        let (before, now) = (named(before), named(now));
+        format!("once {before}, now {now}: {count}")
+    });
+    changes.collect::<Vec<_>>().join(", ")
+}
+
+fn named(answer: &Answer) -> String {
+    match answer {
+        Answer::Refused(number) => number.to_string(),
+        _ => format!("{answer:?}").to_lowercase(),
+    }
 }
 
 /// What was tried valuation by valuation.

@@ -7,9 +7,10 @@ use crate::flawed::{flawed_judge, Flaw};
 use crate::flawed_board::BoardFlaw;
 use crate::histories;
 use crate::plan::{small_pairs, Run, Work};
+use crate::player::Miss;
 use crate::random::Random;
 use crate::reading::{Certificate, Refusal};
-use crate::worked::{cases, cuts, CUT_TABLE, MODEL, TABLE};
+use crate::worked::{cases, cuts, landing_model, landings, CUT_TABLE, MODEL, TABLE};
 use crate::wrong::{self, Wrong};
 
 /// What of a run is to catch a wrong side.
@@ -79,36 +80,85 @@ pub fn flaws_against_law() -> Result<Vec<(String, usize)>, Fault> {
     BoardFlaw::ALL.into_iter().map(objected).collect()
 }
 
+/// Something false that was told, and what came of it.
+type Told = (&'static str, Result<(), Fault>);
+
 /// Tells the player and the search for witnesses things that are false of the worked cases; hands back
 /// how many.
 pub fn false_claims() -> Result<usize, Fault> {
-    let mut evidence = Evidence::default();
-    let right = Certificate {
-        b: 1,
-        whole: 10,
-        nodes: 3,
+    false_claims_to(Miss::Full)
+}
+
+/// What only a player refutes who counts a landing outside in full.
+const TOO_LOW: &str = "b = 9 with a landing outside";
+
+/// Tells them to players that count a landing outside for too little: they let that one pass.
+pub fn flawed_players() -> Result<usize, Fault> {
+    let players = [Miss::OnePowerShort, Miss::Nothing];
+    for miss in players {
+        match false_claims_to(miss) {
+            Err(fault) if fault.0.ends_with(TOO_LOW) => {}
+            other => return Err(Fault(format!("{miss:?} does not show: {other:?}"))),
+        }
+    }
+    Ok(players.len())
+}
+
+fn false_claims_to(miss: Miss) -> Result<usize, Fault> {
+    let mut evidence = Evidence {
+        miss,
+        ..Evidence::default()
     };
-    evidence.of_acceptance(&MODEL, &TABLE, &right)?;
-    let lower = Certificate { b: 0, ..right };
+    let told: Vec<Told> = [
+        of_table(&mut evidence)?,
+        of_cuts(&mut evidence)?,
+        of_landings(&mut evidence)?,
+        of_zones(&mut evidence),
+    ]
+    .into_iter()
+    .flatten()
+    .collect();
+    match told.iter().find(|(_, outcome)| outcome.is_ok()) {
+        Some((what, _)) => Err(Fault(format!("no objection to {what}"))),
+        None => Ok(told.len()),
+    }
+}
+
+/// What the worked table certifies.
+const RIGHT: Certificate = Certificate {
+    b: 1,
+    whole: 10,
+    nodes: 3,
+};
+
+/// That what is refused is accepted, that the fraction is lower, that what is accepted is refused.
+fn of_table(evidence: &mut Evidence) -> Result<Vec<Told>, Fault> {
+    evidence.of_acceptance(&MODEL, &TABLE, &RIGHT)?;
+    let lower = Certificate { b: 0, ..RIGHT };
     let mut told = vec![("b = 0", evidence.of_acceptance(&MODEL, &TABLE, &lower))];
     for case in cases() {
         if ["15", "16", "18", "19"]
             .iter()
             .any(|number| case.line.contains(number))
         {
-            let accepted = evidence.of_acceptance(&case.model, &case.table, &right);
+            let accepted = evidence.of_acceptance(&case.model, &case.table, &RIGHT);
             told.push((case.line, accepted));
         }
     }
-    for (number, place) in [(18, 4), (18, 5), (21, 10), (16, 4)] {
+    for (number, place) in [(18, 4), (18, 5), (19, 4), (21, 10), (16, 4)] {
         let refused = evidence.of_refusal(&MODEL, &TABLE, &Refusal { number, place });
         told.push(("a refusal of M and T", refused));
     }
-    let cut = Certificate { nodes: 5, ..right };
+    Ok(told)
+}
+
+/// The same of tables with a cut.
+fn of_cuts(evidence: &mut Evidence) -> Result<Vec<Told>, Fault> {
+    let cut = Certificate { nodes: 5, ..RIGHT };
     evidence.of_acceptance(&MODEL, &CUT_TABLE, &cut)?;
     let lower = Certificate { b: 0, ..cut };
     let accepted = evidence.of_acceptance(&MODEL, &CUT_TABLE, &lower);
-    told.push(("b = 0 with a cut", accepted));
+    let mut told = vec![("b = 0 with a cut", accepted)];
     for case in cuts() {
         if case.line.starts_with("REFUSED 53 ") {
             let accepted = evidence.of_acceptance(&case.model, &case.table, &cut);
@@ -123,20 +173,49 @@ pub fn false_claims() -> Result<usize, Fault> {
     let claimless = [&CUT_TABLE[..3], &[0x90000000], &CUT_TABLE[4..]].concat();
     let accepted = evidence.of_acceptance(&MODEL, &claimless, &cut);
     told.push(("0 for a cut node", accepted));
+    Ok(told)
+}
+
+/// The same of landings outside. That the fraction is 9 of 10 where every landing at 3 is a miss, only
+/// the player can refute.
+fn of_landings(evidence: &mut Evidence) -> Result<Vec<Told>, Fault> {
+    let mut told = Vec::new();
+    for case in landings() {
+        if case.line.starts_with("REFUSED") {
+            let accepted = evidence.of_acceptance(&case.model, &case.table, &RIGHT);
+            told.push((case.line, accepted));
+        } else {
+            for number in [16, 18, 19] {
+                let refusal = Refusal { number, place: 4 };
+                let refused = evidence.of_refusal(&case.model, &case.table, &refusal);
+                told.push(("a refusal of an accepted landing", refused));
+            }
+        }
+    }
+    let model = landing_model(&[0x51081003], &[]);
+    let table = [&TABLE[..3], &[0x9000000A], &TABLE[4..]].concat();
+    let right = Certificate { b: 10, ..RIGHT };
+    evidence.of_acceptance(&model, &table, &right)?;
+    let lower = Certificate { b: 9, ..RIGHT };
+    let accepted = evidence.of_acceptance(&model, &table, &lower);
+    told.push((TOO_LOW, accepted));
+    Ok(told)
+}
+
+/// Of the two questions.
+fn of_zones(evidence: &mut Evidence) -> Vec<Told> {
     let (above_2, at_most_3, below_3) = (0x50180FFE, 0x51001003, 0x51081003);
     let mut question = |first: &[u32], second: Option<&[u32]>, answer| {
         evidence.of_question(1, first, second, answer)
     };
-    told.push(("empty", question(&[above_2, below_3], None, true)));
-    told.push(("inside", question(&[at_most_3], Some(&[below_3]), true)));
-    told.push((
-        "not inside",
-        question(&[below_3], Some(&[at_most_3]), false),
-    ));
-    match told.iter().find(|(_, outcome)| outcome.is_ok()) {
-        Some((what, _)) => Err(Fault(format!("no objection to {what}"))),
-        None => Ok(told.len()),
-    }
+    vec![
+        ("empty", question(&[above_2, below_3], None, true)),
+        ("inside", question(&[at_most_3], Some(&[below_3]), true)),
+        (
+            "not inside",
+            question(&[below_3], Some(&[at_most_3]), false),
+        ),
+    ]
 }
 
 /// Gives the player and the search for witnesses the answers of each flawed judge, without any
@@ -151,6 +230,9 @@ pub fn flaws_against_player() -> Result<Vec<(String, usize)>, Fault> {
         Flaw::AsksAllNumbersOfACutFirst,
         Flaw::ForgivesEmptyParts,
         Flaw::AddsWhatAPartIsWorth,
+        // V bounds whatever comes behind an edge that can land outside, and a target is worth V anyway.
+        Flaw::ForgivesTheLocationWhereAllLandOutside,
+        Flaw::NoMissAtATarget,
     ];
     let flaws = Flaw::ALL
         .into_iter()
@@ -231,6 +313,12 @@ mod tests {
 
     #[test]
     fn false_claims_are_objected_to() {
-        assert_eq!(false_claims().ok(), Some(23));
+        assert_eq!(false_claims().ok(), Some(48));
+    }
+
+    #[test]
+    fn so_are_players_that_count_a_miss_for_too_little() {
+        let caught = flawed_players();
+        assert_eq!(caught.ok(), Some(2));
     }
 }

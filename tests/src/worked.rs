@@ -1,5 +1,6 @@
 //! The cases of "Timeline M and table T" of document 01, with the answers written there; and cases of
-//! document 02, card 1, for the same timeline, with the answers worked out from the card by hand.
+//! document 02, cards 1 and 4, for the same timeline, with the answers worked out from the cards by
+//! hand.
 
 use crate::comparer::Fault;
 use crate::sides::Side;
@@ -94,9 +95,71 @@ pub fn cuts() -> Vec<Case> {
     ]
 }
 
-/// Asks one side for the answers that document 01 writes down, and for those of card 1.
+/// The worked model with these bounds as the invariant of location 1, where the weight is 9 of 10, and
+/// of the target.
+pub fn landing_model(first: &[u32], target: &[u32]) -> Vec<u32> {
+    [&MODEL[..8], first, &MODEL[8..9], target, &MODEL[9..]].concat()
+}
+
+/// Cases of card 4. The row reaches 2 to 3, so that "at most 3" holds for every landing and "below 3"
+/// for all but one, and "from 5 on" for none.
+pub fn landings() -> Vec<Case> {
+    let (at_most_2, at_most_3, below_3) = (0x51001002, 0x51001003, 0x51081003);
+    let (from_5, above_3, never) = (0x50100FFB, 0x50180FFD, 0x51000FFF);
+    let case = |model: Vec<u32>, table: &[u32], line| Case {
+        model,
+        table: table.to_vec(),
+        line,
+    };
+    let valued = |value: u32| with(&TABLE, 3, 0x90000000 | value);
+    let bounded = |table: &[u32], bound| [&table[..7], &[bound], &table[7..]].concat();
+    let blocked = [&TABLE[..4], &[0xA0000000], &TABLE[6..]].concat();
+    let first = |bound| landing_model(&[bound], &[]);
+    let at_target = |bound| landing_model(&[], &[bound]);
+    let empty_target = [&TABLE[..9], &[never], &TABLE[9..]].concat();
+    let worthless = with(&valued(0), 9, 0x90000000);
+    let shut = with(&landing_model(&[never], &[never]), 4, above_3);
+    vec![
+        // 9 × 0 + 1 × 10, or 9 × 10 + 1 × 10.
+        case(first(at_most_3), &TABLE, "ACCEPTED 1 10 3"),
+        case(first(below_3), &valued(9), "REFUSED 19 4"),
+        case(first(below_3), &valued(10), "ACCEPTED 10 10 3"),
+        case(first(from_5), &valued(9), "REFUSED 19 4"),
+        // The choice is allowed all the same.
+        case(first(from_5), &blocked, "REFUSED 16 4"),
+        case(at_target(from_5), &blocked, "REFUSED 16 4"),
+        // A successor holds the landings inside, and no others.
+        case(
+            first(below_3),
+            &bounded(&valued(10), below_3),
+            "ACCEPTED 10 10 3",
+        ),
+        case(
+            first(below_3),
+            &bounded(&valued(10), at_most_2),
+            "REFUSED 18 4",
+        ),
+        case(at_target(from_5), &empty_target, "ACCEPTED 1 10 3"),
+        case(MODEL.to_vec(), &empty_target, "REFUSED 18 5"),
+        // V, whatever the target's node has, which comes later.
+        case(at_target(from_5), &worthless, "REFUSED 19 4"),
+        case(MODEL.to_vec(), &worthless, "REFUSED 15 9"),
+        // What is never chosen lands nowhere.
+        case(shut, &TABLE, "ACCEPTED 1 10 3"),
+    ]
+}
+
+/// All worked cases of judging.
+pub fn all() -> Vec<Case> {
+    [cases(), cuts(), landings()]
+        .into_iter()
+        .flatten()
+        .collect()
+}
+
+/// Asks one side for the answers that document 01 writes down, and for those of cards 1 and 4.
 pub fn check(side: &dyn Side) -> Result<(), Fault> {
-    for case in cases().into_iter().chain(cuts()) {
+    for case in all() {
         let words = [&case.model[..], &case.table].concat();
         let judged = match side.judge(&case.model, &case.table) {
             Ok(accepted) => format!(

@@ -107,5 +107,7 @@ fn catch_wrong_judges() -> Result<(), Fault> {
     }
     let told = self_check::false_claims()?;
     println!("false claims objected to: {told}");
+    let players = self_check::flawed_players()?;
+    println!("players that count a landing outside for too little, caught by them: {players}");
     Ok(())
 }

@@ -1,6 +1,8 @@
 //! A judge with one flaw to choose, among them the errors that document 01 says would pass a casual
-//! look, and errors that card 1 of document 02 invites. It is put together from the reading's parsers
-//! and zones.
+//! look, and errors that cards 1 and 4 of document 02 invite. It is put together from the reading's
+//! parsers and zones.
+
+mod landings;
 
 use crate::reading::{
     parse_model, parse_table, Action, Body, Bound, Certificate, Cut, Model, Node,
@@ -13,9 +15,6 @@ pub enum Flaw {
     DelaysPastTheInvariant,
     ForgetsTheDelay,
     ForgetsTheGuard,
-    ForgetsWhereEdgesLand,
-    AsksOnlyWhereTheFirstEdgeLands,
-    AsksTheLandingBeforeTheReset,
     ResetsBeforeTheGuard,
     ForgetsTheReset,
     BelievesBlockedRows,
@@ -39,17 +38,34 @@ pub enum Flaw {
     ForgivesEmptyParts,
     MeetsPartsWithTheInvariant,
     AddsWhatAPartIsWorth,
+    ForbidsLandingsOutside,
+    ForbidsLandingsOutsideInBlockedRows,
+    HoldsOnlyWhereAllEdgesLandInside,
+    HoldsLandingsOutsideToo,
+    HoldsNothingWhereItCanMiss,
+    ForgivesTheLocationWhereAllLandOutside,
+    AddsTheSuccessorsValueForAMiss,
+    AddsVAndTheSuccessorsValue,
+    AddsVForTheWholeRow,
+    MissesOnlyWhereAllLandOutside,
+    MissesFromAnEmptyReach,
+    MissesAtScaleOneOnly,
+    MissesByTheFirstEdgeOnly,
+    MissesFromAnywhere,
+    NoMissAtATarget,
+    AddsNothingOutsideATarget,
+    AsksTheSourcesInvariant,
+    AsksTheLandingBeforeTheReset,
+    ForgetsTheStrictnessOfTheInvariant,
+    ForgetsTheLowerBoundsOfTheInvariant,
 }
 
 impl Flaw {
-    pub const ALL: [Flaw; 30] = [
+    pub const ALL: [Flaw; 47] = [
         Flaw::TrustsANodesZoneToLieInItsInvariant,
         Flaw::DelaysPastTheInvariant,
         Flaw::ForgetsTheDelay,
         Flaw::ForgetsTheGuard,
-        Flaw::ForgetsWhereEdgesLand,
-        Flaw::AsksOnlyWhereTheFirstEdgeLands,
-        Flaw::AsksTheLandingBeforeTheReset,
         Flaw::ResetsBeforeTheGuard,
         Flaw::ForgetsTheReset,
         Flaw::BelievesBlockedRows,
@@ -73,6 +89,26 @@ impl Flaw {
         Flaw::ForgivesEmptyParts,
         Flaw::MeetsPartsWithTheInvariant,
         Flaw::AddsWhatAPartIsWorth,
+        Flaw::ForbidsLandingsOutside,
+        Flaw::ForbidsLandingsOutsideInBlockedRows,
+        Flaw::HoldsOnlyWhereAllEdgesLandInside,
+        Flaw::HoldsLandingsOutsideToo,
+        Flaw::HoldsNothingWhereItCanMiss,
+        Flaw::ForgivesTheLocationWhereAllLandOutside,
+        Flaw::AddsTheSuccessorsValueForAMiss,
+        Flaw::AddsVAndTheSuccessorsValue,
+        Flaw::AddsVForTheWholeRow,
+        Flaw::MissesOnlyWhereAllLandOutside,
+        Flaw::MissesFromAnEmptyReach,
+        Flaw::MissesAtScaleOneOnly,
+        Flaw::MissesByTheFirstEdgeOnly,
+        Flaw::MissesFromAnywhere,
+        Flaw::NoMissAtATarget,
+        Flaw::AddsNothingOutsideATarget,
+        Flaw::AsksTheSourcesInvariant,
+        Flaw::AsksTheLandingBeforeTheReset,
+        Flaw::ForgetsTheStrictnessOfTheInvariant,
+        Flaw::ForgetsTheLowerBoundsOfTheInvariant,
     ];
 }
 
@@ -127,7 +163,10 @@ impl Judge<'_> {
     fn rows(&self, node: &Node, rows: &[Row]) -> Result<(), Refusal> {
         let actions = &self.model.locations[node.location].actions;
         for (row, action) in rows.iter().zip(actions) {
-            let reach = self.reach(node, action);
+            let mut reach = self.reach(node, action);
+            if self.forbids_landings_outside(row) {
+                reach = self.landing_inside(action, &reach);
+            }
             match row {
                 Row::Blocked { place } => {
                     let believed = self.flaw == Flaw::BelievesBlockedRows;
@@ -157,16 +196,6 @@ impl Judge<'_> {
         ) {
             reach = reach.meet(&Zone::of(self.model.clocks, &action.guard));
         }
-        let asked = match self.flaw {
-            Flaw::ForgetsWhereEdgesLand => 0,
-            Flaw::AsksOnlyWhereTheFirstEdgeLands => 1,
-            _ => action.edges.len(),
-        };
-        for edge in &action.edges[..asked] {
-            let early = self.flaw == Flaw::AsksTheLandingBeforeTheReset;
-            let resets = if early { 0 } else { edge.resets };
-            reach = reach.landing_in(&self.invariant(edge.location), resets);
-        }
         reach
     }
 
@@ -181,29 +210,34 @@ impl Judge<'_> {
             return Ok(());
         }
         if self.flaw == Flaw::AsksTheSumFirst {
-            self.sum(node, action, successors)?;
+            self.sum(node, action, successors, reach)?;
         }
         for (edge, successor) in action.edges.iter().zip(successors) {
             let next = &self.table.nodes[successor.node];
-            demand(next.location == edge.location, 17, successor.place)?;
-            let mut landed = *reach;
-            if self.flaw != Flaw::ForgetsTheReset {
-                landed = landed.reset(edge.resets);
-            }
-            if self.flaw == Flaw::ResetsBeforeTheGuard {
-                landed = landed.meet(&Zone::of(self.model.clocks, &action.guard));
-            }
-            demand(landed.inside(&self.zone(next)), 18, successor.place)?;
+            let located = next.location == edge.location
+                || self.flaw == Flaw::ForgivesTheLocationWhereAllLandOutside
+                    && !reach.is_empty()
+                    && self.landings(node, edge, reach).is_empty();
+            demand(located, 17, successor.place)?;
+            let held = self.to_be_held(node, action, edge, reach);
+            demand(held.inside(&self.zone(next)), 18, successor.place)?;
         }
-        self.sum(node, action, successors)
+        self.sum(node, action, successors, reach)
     }
 
-    fn sum(&self, node: &Node, action: &Action, successors: &[NodeRef]) -> Result<(), Refusal> {
-        let value = |successor: &NodeRef| u64::from(self.worth(&self.table.nodes[successor.node]));
-        let products = action.edges.iter().zip(successors);
-        let mut sum: u64 = products
-            .map(|(edge, to)| u64::from(edge.weight) * value(to))
-            .sum();
+    fn sum(
+        &self,
+        node: &Node,
+        action: &Action,
+        successors: &[NodeRef],
+        reach: &Zone,
+    ) -> Result<(), Refusal> {
+        let mut sum = 0;
+        for (number, (edge, successor)) in action.edges.iter().zip(successors).enumerate() {
+            let own = self.worth(&self.table.nodes[successor.node]);
+            let missed = self.can_miss(node, action, number, reach);
+            sum += u64::from(edge.weight) * self.added(edge, own, missed);
+        }
         let mut most = u64::from(self.model.denominator) * u64::from(node.value);
         if self.flaw == Flaw::AddsIn32Bits {
             (sum, most) = (sum & 0xFFFF_FFFF, most & 0xFFFF_FFFF);
@@ -211,7 +245,7 @@ impl Judge<'_> {
         demand(sum <= most, 19, successors[0].place)
     }
 
-    /// What a successor adds to a sum.
+    /// What a successor adds to a sum by its own value.
     fn worth(&self, node: &Node) -> u32 {
         match node.cut() {
             Some(cut) if self.flaw == Flaw::AddsWhatAPartIsWorth => {
