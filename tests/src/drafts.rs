@@ -139,6 +139,13 @@ impl Draft {
         }
     }
 
+    /// The least value that a node's rows or parts allow if no edge lands outside.
+    pub fn needed_by_values(&self, model: &Model, number: usize) -> u32 {
+        let actions = &model.locations[self.nodes[number].location].actions;
+        let none = actions.iter().map(|action| vec![false; action.edges.len()]);
+        self.needed_value(model, number, &none.collect())
+    }
+
     /// The row's sum divided by D, rounded up. An edge that can land outside adds V.
     fn row_value(&self, model: &Model, action: &Action, row: &[usize], misses: &[bool]) -> u32 {
         let mut sum = 0;

@@ -34,12 +34,13 @@ pub struct Evidence {
     /// Of the tables played at all scales, those with a cut; of the claims, those of cut nodes.
     pub played_with_cut: usize,
     pub claims_of_cut: usize,
-    /// Of the tables played at all scales, those with a landing outside at some of them, and of these
-    /// those without one at scale 1.
+    /// Of the tables played at all scales, those with a landing outside at some of them; of these,
+    /// those without one at scale 1, and those that certify a fraction below 1.
     pub played_with_miss: usize,
     pub missed_between_ticks: usize,
+    pub missed_below_1: usize,
     /// Played tables for which a value of the start node lower by one is refuted; of these, those with
-    /// a landing outside.
+    /// a landing outside and a fraction below 1.
     pub tight: usize,
     pub tight_with_miss: usize,
     /// Rows, parts and starts of accepted tables in which no witness was found, as it should be.
@@ -191,7 +192,9 @@ impl Evidence {
             let some = missed.contains(&true);
             self.played_with_miss += usize::from(some);
             self.missed_between_ticks += usize::from(some && !missed[0]);
-            self.tight_with_miss += usize::from(some && tight);
+            let below_1 = some && certificate.b < certificate.whole;
+            self.missed_below_1 += usize::from(below_1);
+            self.tight_with_miss += usize::from(below_1 && tight);
         } else {
             self.played_in_part += 1;
         }

@@ -146,6 +146,8 @@ impl<'a> Explorer<'a> {
             constant: self.random.pick(&[1, 2, 3, 5]),
             denominator: self.model.denominator,
             strict: 3,
+            walled: false,
+            onward: false,
         };
         let location = self.random.below(size.locations);
         let bounds = zone_bounds(self.random, &size);

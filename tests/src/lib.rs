@@ -1,14 +1,14 @@
 //! Outside evidence for the miss-chance judge: code that shares nothing with the proved crates.
 //!
-//! `reading` is an independent reading of document 01 and of document 02, cards 1 and 3, `plain` a
-//! plain judge written for speed. `plan` draws inputs (`models`, `explore`, `cuts`, `edits`, `mutate`,
-//! `garbage`, `boundaries`, `questions`, `program_inputs`) and has the judge under test, the reading
-//! and the plain judge answer them (`comparer`). `histories` does the same with boards of slots, after
-//! every submission of a history, and holds the boards against the law of card 3. `cases` holds all
-//! of them against the stored answers under `tests/cases`. `evidence` holds answers against
-//! valuations that are tried one by one (`points`, `player`, `witness`). `self_check` shows that the
-//! tests can fail, with judges and boards that are wrong on purpose (`wrong`, `flawed`,
-//! `flawed_board`). `figures` says how long a call takes on each side, `instructions` how many
+//! `reading` is an independent reading of document 01 and of document 02, cards 1, 3 and 4, `plain` a
+//! plain judge written for speed. `plan` draws inputs (`models`, `explore`, `cuts`, `landings`, `edits`,
+//! `mutate`, `garbage`, `boundaries`, `questions`, `program_inputs`) and has the judge under test, the
+//! reading and the plain judge answer them (`comparer`). `histories` does the same with boards of
+//! slots, after every submission of a history, and holds the boards against the law of card 3. `cases`
+//! holds all of them against the stored answers under `tests/cases`. `evidence` holds answers against
+//! valuations that are tried one by one (`points`, `player`, `witness`, `sums`). `self_check` shows
+//! that the tests can fail, with judges, boards and players that are wrong on purpose (`wrong`,
+//! `flawed`, `flawed_board`, `player`). `figures` says how long a call takes on each side, `instructions` how many
 //! instructions it needs, on the inputs of `shapes` and the boards of `kept`.
 
 pub mod boundaries;
@@ -26,6 +26,7 @@ pub mod garbage;
 pub mod histories;
 pub mod instructions;
 pub mod kept;
+pub mod landings;
 pub mod models;
 pub mod mutate;
 pub mod plain;

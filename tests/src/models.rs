@@ -15,6 +15,11 @@ pub struct Size {
     pub denominator: u32,
     /// One bound in so many is strict.
     pub strict: usize,
+    /// Whether more locations have an invariant, targets among them, so that edges often land outside.
+    pub walled: bool,
+    /// Whether edges lead to later locations only, and mostly several of one action among few, so that
+    /// not every run is a miss in the end.
+    pub onward: bool,
 }
 
 impl Size {
@@ -26,6 +31,8 @@ impl Size {
             constant: random.pick(&[1, 2, 2, 3, 3, 4, 4, 6, 25, 4095]),
             denominator: denominator(random),
             strict: random.pick(&[1, 3, 3, 3, 8]),
+            walled: random.one_in(4),
+            onward: random.one_in(4),
         }
     }
 
@@ -42,6 +49,8 @@ impl Size {
             },
             denominator: denominator(random),
             strict: random.pick(&[1, 2, 3, 3]),
+            walled: random.one_in(3),
+            onward: random.one_in(2),
         }
     }
 }
@@ -76,14 +85,21 @@ fn any_model(random: &mut Random, size: &Size) -> Vec<u32> {
         };
         words.push(spell::location(target));
         invariant(random, size, target, &mut words);
-        let wanted = random.pick(&[0, 1, 1, 1, 2, 2, 3]);
+        let wanted = match size.onward {
+            true => random.pick(&[0, 1, 1, 1, 1, 2]),
+            false => random.pick(&[0, 1, 1, 1, 2, 2, 3]),
+        };
         let wanted = if target && !random.one_in(4) {
             0
         } else {
             wanted
         };
+        let first_next = if size.onward { number + 1 } else { 0 };
+        if first_next == size.locations {
+            continue;
+        }
         for _ in 0..wanted.min(actions_left) {
-            action(random, size, &mut words);
+            action(random, size, first_next, &mut words);
             actions_left -= 1;
         }
     }
@@ -97,15 +113,15 @@ fn any_model(random: &mut Random, size: &Size) -> Vec<u32> {
     words
 }
 
-/// Often an upper bound, sometimes a lower one.
+/// Often an upper bound, sometimes a lower one; in a walled model mostly both or one of them.
 fn invariant(random: &mut Random, size: &Size, target: bool, words: &mut Vec<u32>) {
-    if target && !random.one_in(3) {
+    if target && !size.walled && !random.one_in(3) {
         return;
     }
-    if random.one_in(2) {
+    if random.one_in(2) || size.walled && random.one_in(2) {
         words.push(spell::bound(&upper(random, size)));
     }
-    if random.one_in(4) {
+    if random.one_in(4) || size.walled && random.one_in(4) {
         words.push(spell::bound(&lower(random, size)));
     }
     if random.one_in(12) {
@@ -113,21 +129,30 @@ fn invariant(random: &mut Random, size: &Size, target: bool, words: &mut Vec<u32
     }
 }
 
-fn action(random: &mut Random, size: &Size, words: &mut Vec<u32>) {
+/// An action whose edges lead to locations from `first_next` on.
+fn action(random: &mut Random, size: &Size, first_next: usize, words: &mut Vec<u32>) {
     words.push(spell::ACTION);
-    if random.one_in(2) {
-        words.push(spell::bound(&lower(random, size)));
-    }
-    if random.one_in(3) {
-        words.push(spell::bound(&upper(random, size)));
+    if size.walled && random.one_in(4) {
+        words.extend(spell::bounds(&between_ticks(random, size)));
+    } else {
+        if random.one_in(2) {
+            words.push(spell::bound(&lower(random, size)));
+        }
+        if random.one_in(3) {
+            words.push(spell::bound(&upper(random, size)));
+        }
     }
     if random.one_in(20) {
         words.push(spell::bound(&odd(random, size)));
     }
-    let edges = random.pick(&[1, 1, 2, 2, 2, 3, 4]);
+    let edges = match size.onward {
+        true => random.pick(&[1, 2, 3, 3, 4, 4]),
+        false => random.pick(&[1, 1, 2, 2, 2, 3, 4]),
+    };
     for weight in weights(random, size.denominator, edges) {
         let resets = random.word() & random.word() & ((1 << size.clocks) - 1);
-        words.push(spell::edge(resets, random.below(size.locations), weight));
+        let next = first_next + random.below(size.locations - first_next);
+        words.push(spell::edge(resets, next, weight));
     }
 }
 
@@ -188,6 +213,19 @@ fn lower(random: &mut Random, size: &Size) -> Bound {
         d: random.between(-size.constant, 0),
         strict: random.one_in(size.strict),
     }
+}
+
+/// A clock from a whole number, or above it, up to the next, and below that: but for the number itself
+/// not to be met at scale 1.
+fn between_ticks(random: &mut Random, size: &Size) -> [Bound; 2] {
+    let from = lower(random, size);
+    let before = Bound {
+        i: from.j,
+        j: 0,
+        d: (1 - from.d).min(4095),
+        strict: true,
+    };
+    [from, before]
 }
 
 /// Any sign: a clock below a negative number (never) or above one (always) too.

@@ -1,5 +1,5 @@
-//! Faults in lists of words: single fields moved, words dropped, doubled, swapped, put in or added; and
-//! the words of a cut, lacking, too many or out of place.
+//! Faults in lists of words: single fields moved, words dropped, doubled, swapped, put in or added; the
+//! words of a cut, lacking, too many or out of place; and invariants with one more bound.
 
 use crate::garbage::plausible_word;
 use crate::random::Random;
@@ -9,9 +9,10 @@ use crate::spell;
 /// One fault, sometimes two or three.
 pub fn mutate(random: &mut Random, words: &mut Vec<u32>) {
     for _ in 0..random.pick(&[1, 1, 1, 1, 2, 3]) {
-        match random.below(8) {
+        match random.below(9) {
             0..=3 => change_a_field(random, words),
             4 => change_a_cut(random, words),
+            5 => bound_a_location(random, words),
             _ => change_the_list(random, words),
         }
     }
@@ -134,6 +135,20 @@ fn put_in_a_cut(random: &mut Random, words: &mut Vec<u32>) {
         spell::successor(random.below(values.len() + 1)),
     ];
     words.splice(range, cut);
+}
+
+/// One more bound of an invariant, so that an edge lands outside that did not. A table has no locations.
+fn bound_a_location(random: &mut Random, words: &mut Vec<u32>) {
+    let is_location = |place: &usize| words[*place] >> 28 == 0x2;
+    let locations: Vec<usize> = (0..words.len()).filter(is_location).collect();
+    if locations.is_empty() {
+        return change_the_list(random, words);
+    }
+    let (d, strict) = (random.between(0, 3), random.one_in(3));
+    let upper = random.one_in(2);
+    let (i, j, d) = if upper { (1, 0, d) } else { (0, 1, -d) };
+    let bound = spell::bound(&Bound { i, j, d, strict });
+    words.insert(random.pick(&locations) + 1, bound);
 }
 
 /// A bit flipped, or words dropped, doubled, swapped, replaced, put in, cut off or added.

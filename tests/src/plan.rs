@@ -9,6 +9,7 @@ use crate::evidence::Evidence;
 use crate::explore::explore;
 use crate::garbage::{garbage_model, garbage_table, raw};
 use crate::histories;
+use crate::landings::change_landing;
 use crate::models::{self, Size};
 use crate::mutate::mutate;
 use crate::program_inputs;
@@ -59,8 +60,8 @@ impl Work {
         boundaries: 1,
         programs: 300,
         boards: histories::Counts {
-            histories: 30,
-            handed_in: 300,
+            histories: 100,
+            handed_in: 1000,
         },
     };
 }
@@ -243,10 +244,11 @@ impl<'a> Run<'a> {
 fn near(random: &mut Random, model: &Model, draft: &Draft) -> Draft {
     let mut near = draft.clone();
     for _ in 0..random.pick(&[1, 1, 2, 3]) {
-        match random.below(4) {
+        match random.below(5) {
             0 => loosen(random, model, &mut near),
             1 => tighten(random, model, &mut near),
             2 => reroute(random, model, &mut near),
+            3 => change_landing(random, model, &mut near),
             _ => spoil_cut(random, model, &mut near),
         }
     }

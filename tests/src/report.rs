@@ -38,6 +38,16 @@ const ANSWERS: [(&str, Answer); 11] = [
     ("rank", Answer::Refused(54)),
 ];
 
+/// Answers that card 4 must have changed, and how often at least. None is changed to an acceptance: the
+/// comparison fails if one is.
+const CHANGES: [(Answer, Answer, usize); 5] = [
+    (Answer::Accepted, Answer::Refused(16), 500),
+    (Answer::Accepted, Answer::Refused(18), 500),
+    (Answer::Accepted, Answer::Refused(19), 500),
+    (Answer::Refused(15), Answer::Refused(19), 50),
+    (Answer::Refused(19), Answer::Refused(18), 20),
+];
+
 /// Comparisons by call and answer.
 pub fn comparisons(tally: &Tally) -> String {
     let mut text = String::new();
@@ -110,11 +120,14 @@ pub fn evidence(evidence: &Evidence, tally: &Tally) -> String {
             tally.accepted_with_cut, evidence.played_with_cut, evidence.claims_of_cut
         ),
         format!(
-            "played tables with a landing outside: {}, of these with none at scale 1: {}; rows accepted with V for an edge that lands outside: {}",
-            evidence.played_with_miss, evidence.missed_between_ticks, evidence.sums_with_miss
+            "played tables with a landing outside: {}, of these with none at scale 1: {}, with a fraction below 1: {}; rows accepted with V for an edge that lands outside: {}",
+            evidence.played_with_miss,
+            evidence.missed_between_ticks,
+            evidence.missed_below_1,
+            evidence.sums_with_miss
         ),
         format!(
-            "played tables refuted when the start's value is lowered by one: {}, of these with a landing outside: {}",
+            "played tables refuted when the start's value is lowered by one: {}, of these with a landing outside and a fraction below 1: {}",
             evidence.tight, evidence.tight_with_miss
         ),
         format!(
@@ -183,6 +196,11 @@ pub fn lacks(tally: &Tally, evidence: &Evidence) -> Vec<String> {
     let others = due_of_all(tally).map(|(count, least, what)| (count, least, what.to_string()));
     let tried =
         due_of_evidence(evidence).map(|(count, least, what)| (count, least, what.to_string()));
+    let changed = CHANGES.map(|(before, now, least)| {
+        let count = tally.changed.get(&(before, now)).copied().unwrap_or(0);
+        let what = format!("answers once {}, now {}", named(&before), named(&now));
+        (count, least, what)
+    });
     let boards = due_of_boards(tally).map(|(count, least, what)| (count, least, what.to_string()));
     let all = refused
         .into_iter()
@@ -190,6 +208,7 @@ pub fn lacks(tally: &Tally, evidence: &Evidence) -> Vec<String> {
         .chain(witnessed)
         .chain(others)
         .chain(tried)
+        .chain(changed)
         .chain(boards);
     let short = all.filter(|(count, least, _)| count < least);
     short
@@ -212,7 +231,7 @@ fn due_of_all(tally: &Tally) -> [(usize, usize, &'static str); 4] {
 }
 
 /// What must have been tried out, and how often at least.
-fn due_of_evidence(evidence: &Evidence) -> [(usize, usize, &'static str); 9] {
+fn due_of_evidence(evidence: &Evidence) -> [(usize, usize, &'static str); 10] {
     [
         (evidence.played, 1000, "tables played"),
         (evidence.played_with_cut, 1000, "tables with a cut played"),
@@ -225,6 +244,11 @@ fn due_of_evidence(evidence: &Evidence) -> [(usize, usize, &'static str); 9] {
             evidence.missed_between_ticks,
             50,
             "tables with landings outside at scales above 1 only",
+        ),
+        (
+            evidence.missed_below_1,
+            200,
+            "tables with landings outside and a fraction below 1",
         ),
         (
             evidence.sums_with_miss,
@@ -280,6 +304,7 @@ mod tests {
     #[test]
     fn an_idle_run_lacks_everything() {
         let lacks = lacks(&Tally::default(), &Evidence::default());
-        assert_eq!(lacks.len(), REFUSALS.len() + ANSWERS.len() + 5 + 4 + 9 + 13);
+        let lists = REFUSALS.len() + ANSWERS.len() + CHANGES.len();
+        assert_eq!(lacks.len(), lists + 5 + 4 + 10 + 13);
     }
 }

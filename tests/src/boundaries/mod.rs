@@ -1,7 +1,8 @@
-//! Cases at the limits of document 01 and of document 02, card 1, which random inputs hit rarely.
+//! Cases at the limits of document 01 and of document 02, cards 1 and 4, which random inputs hit rarely.
 
 mod bounds;
 mod cuts;
+mod landings;
 mod long;
 mod models;
 mod tables;
@@ -27,6 +28,7 @@ pub fn pairs(random: &mut Random) -> Vec<Pair> {
     pairs.extend((0..60).map(|_| bounds::largest_constants(random)));
     pairs.extend((0..100).map(|_| bounds::fractions(random)));
     pairs.extend(cuts::pairs(random));
+    pairs.extend(landings::pairs(random));
     pairs.extend(long::pairs());
     pairs
 }
