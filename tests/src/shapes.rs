@@ -24,6 +24,7 @@ pub enum Shape {
     Worked,
     Full { clocks: usize, nodes: usize },
     Cuts { clocks: usize },
+    Outside { clocks: usize },
     LongestFile,
     LongTable(usize),
     LongModel(usize),
@@ -40,6 +41,7 @@ pub fn all() -> Vec<Shape> {
         shapes.extend([1, 8, 64].map(|nodes| Shape::Full { clocks, nodes }));
     }
     shapes.extend([1, 4].map(|clocks| Shape::Cuts { clocks }));
+    shapes.extend([1, 4].map(|clocks| Shape::Outside { clocks }));
     shapes.push(Shape::LongestFile);
     for words in [10_000, 100_000, 1_000_000] {
         shapes.extend([
@@ -71,6 +73,12 @@ impl Shape {
                     many(*clocks, "clock")
                 );
             }
+            Shape::Outside { clocks } => {
+                return format!(
+                    "judge, landings outside: {}, {MOST_NODES} nodes",
+                    many(*clocks, "clock")
+                );
+            }
             Shape::LongestFile => "judge, longest file",
             Shape::LongTable(_) => "judge, long run of bounds",
             Shape::LongModel(_) => "read a model",
@@ -91,6 +99,7 @@ impl Shape {
                 Input::Judging(full_model(clocks), full_table(clocks, nodes))
             }
             Shape::Cuts { clocks } => Input::Judging(still_model(clocks), cut_table(clocks)),
+            Shape::Outside { clocks } => Input::Judging(walled_model(clocks), walled_table(clocks)),
             Shape::LongestFile => Shape::LongTable(LONGEST - worked::MODEL.len()).input(),
             Shape::LongTable(words) => Input::Judging(worked::MODEL.to_vec(), long_table(words)),
             Shape::LongModel(words) => Input::Model(long_model(words)),
@@ -281,16 +290,33 @@ fn each_at_most(clocks: usize, d: i32) -> impl Iterator<Item = u32> {
 /// One location with as many actions and edges as a model can have. The edges reset clocks in
 /// turn.
 fn full_model(clocks: usize) -> Vec<u32> {
+    let mut model = busy_location(clocks, 0);
+    model.push(spell::start(0));
+    model.extend(each_at_most(clocks, 0));
+    model
+}
+
+/// The same with all edges to a second location, in which clocks may be at most half as high: unless
+/// it resets every clock, an edge can land outside.
+fn walled_model(clocks: usize) -> Vec<u32> {
+    let mut model = busy_location(clocks, 1);
+    model.push(spell::location(false));
+    model.extend(each_at_most(clocks, 10));
+    model.push(spell::start(0));
+    model.extend(each_at_most(clocks, 0));
+    model
+}
+
+/// The head of a model and a location with all its actions and edges; where the edges lead is given.
+fn busy_location(clocks: usize, to: usize) -> Vec<u32> {
     let mut model = vec![spell::head(clocks, 4), spell::location(false)];
     model.extend(each_at_most(clocks, 20));
     for action in 0..32 {
         let guard = at_most(0, 1 + action % clocks, -(action as i32 % 5));
         model.extend([spell::ACTION, guard]);
         let resets = |edge| (action as u32 + edge) & ((1 << clocks) - 1);
-        model.extend((0..4).map(|edge| spell::edge(resets(edge), 0, 1)));
+        model.extend((0..4).map(|edge| spell::edge(resets(edge), to, 1)));
     }
-    model.push(spell::start(0));
-    model.extend(each_at_most(clocks, 0));
     model
 }
 
@@ -303,6 +329,21 @@ fn full_table(clocks: usize, nodes: usize) -> Vec<u32> {
         table.extend((0..32 * 4).map(|edge| spell::successor((node + edge) % nodes)));
     }
     table.push(spell::start_node(0));
+    table
+}
+
+/// As many nodes as a table can have. The last one is the successor in every row of the others, and
+/// holds no landing outside.
+fn walled_table(clocks: usize) -> Vec<u32> {
+    let mut table = vec![spell::table_head(1)];
+    let last = MOST_NODES - 1;
+    for _ in 0..last {
+        table.extend(full_node(clocks));
+        table.extend(vec![spell::successor(last); 32 * 4]);
+    }
+    table.push(spell::node(1));
+    table.extend(each_at_most(clocks, 10));
+    table.extend([spell::value(1), spell::start_node(0)]);
     table
 }
 
@@ -345,4 +386,30 @@ fn cut_table(clocks: usize) -> Vec<u32> {
     table.extend(full_node(clocks));
     table.push(spell::start_node(0));
     table
+}
+
+#[cfg(test)]
+mod tests {
+    use super::*;
+    use crate::plain;
+    use crate::reading::judge;
+
+    /// The lines on landings outside are about edges that land there: what their successor is worth does
+    /// not matter, and a node that is worth less than V is refused.
+    #[test]
+    fn edges_land_outside() {
+        for clocks in [1, 4] {
+            let (model, mut table) = (walled_model(clocks), walled_table(clocks));
+            assert!(judge(&model, &table).is_ok());
+            let last = table.len() - 2;
+            table[last] = spell::value(0);
+            assert!(judge(&model, &table).is_ok());
+            let at_first = table.iter().position(|word| word >> 28 == 9);
+            table[at_first.expect("a value")] = spell::value(0);
+            let refused = judge(&model, &table).expect_err("a sum that is too large");
+            let plainly = plain::judge(&model, &table).err();
+            assert_eq!(refused.number, 19);
+            assert_eq!(plainly.map(|plain| plain.place), Some(refused.place));
+        }
+    }
 }

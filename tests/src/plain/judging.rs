@@ -109,18 +109,13 @@ impl Judge<'_> {
     }
 
     /// From a reach that is not empty: whether the edge can land outside the invariant of its
-    /// location, and whether the next zone holds what lands inside. What lands inside is that part of
-    /// the reach, reset.
+    /// location, and whether the next zone holds what lands inside.
     fn landing(&self, edge: &Edge, reach: &Zone, next: &Zone) -> (bool, bool) {
         let (clocks, resets) = (self.model.clocks, edge.resets());
         let to = &self.model.locations[edge.location()];
-        if !to.bounded || reach.lands_inside(&to.invariant, resets) {
-            return (false, reach.inside_after_reset(clocks, resets, next));
-        }
-        let mut part = *reach;
-        part.land(&to.invariant, resets);
-        part.tighten(clocks);
-        let held = part.is_empty() || part.inside_after_reset(clocks, resets, next);
-        (true, held)
+        let missed = to.bounded && !reach.lands_inside(&to.invariant, resets);
+        let all_held = reach.inside_after_reset(clocks, resets, next);
+        let held = all_held || missed && reach.part_inside(clocks, resets, &to.invariant, next);
+        (missed, held)
     }
 }

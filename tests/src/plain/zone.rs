@@ -124,22 +124,35 @@ impl Zone {
         }
     }
 
-    /// Adds that the valuation lies in an invariant once the masked clocks are set to 0. An
-    /// invariant bounds single clocks only.
-    pub fn land(&mut self, invariant: &Zone, mask: u32) {
-        for (clock, source) in sources(mask).into_iter().enumerate().skip(1) {
-            self.lower(source, 0, invariant.0[clock][0]);
-            self.lower(0, source, invariant.0[0][clock]);
-        }
-    }
-
-    /// Whether a zone that is tightened and not empty lies in an invariant once the masked clocks are
-    /// set to 0.
+    /// Whether a zone that is tightened and not empty lies in an invariant, which bounds single clocks
+    /// only, once the masked clocks are set to 0.
     pub fn lands_inside(&self, invariant: &Zone, mask: u32) -> bool {
         let mut sources = sources(mask).into_iter().enumerate().skip(1);
         sources.all(|(clock, source)| {
             self.0[source][0] <= invariant.0[clock][0] && self.0[0][source] <= invariant.0[0][clock]
         })
+    }
+
+    /// Of a zone that is tightened and not empty, with the masked clocks set to 0: whether the part of
+    /// it in an invariant lies inside another zone, as nothing does. A chain of clocks that has become
+    /// shorter goes by way of clock 0, since an invariant bounds single clocks only.
+    pub fn part_inside(&self, clocks: u32, mask: u32, invariant: &Zone, other: &Zone) -> bool {
+        let size = clocks as usize + 1;
+        let sources = sources(mask);
+        let landed = |i: usize, j: usize| self.0[sources[i]][sources[j]];
+        let mut to_0 = [NONE; SIZE];
+        let mut from_0 = [NONE; SIZE];
+        for i in 0..size {
+            for j in 0..size {
+                to_0[i] = to_0[i].min(chain(landed(i, j), invariant.0[j][0]));
+                from_0[i] = from_0[i].min(chain(invariant.0[0][j], landed(j, i)));
+            }
+        }
+        if (0..size).any(|clock| chain(to_0[clock], from_0[clock]) < AT_MOST_0) {
+            return true;
+        }
+        let bound = |i: usize, j: usize| landed(i, j).min(chain(to_0[i], from_0[j]));
+        (0..size).all(|i| (0..size).all(|j| bound(i, j) <= other.0[i][j]))
     }
 
     /// Whether a zone that is tightened and not empty lies inside another once the masked clocks
@@ -191,6 +204,14 @@ fn sources(mask: u32) -> [usize; SIZE] {
             clock
         }
     })
+}
+
+/// The sum of two bounds, each of which may be lacking.
+fn chain(first: Bound, second: Bound) -> Bound {
+    if first == NONE {
+        return NONE;
+    }
+    sum(first, second)
 }
 
 /// The sum of two bounds, the first of which is there; strict if one of them is.
