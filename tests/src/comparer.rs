@@ -118,8 +118,8 @@ impl<'a> Comparer<'a> {
         Ok(judged)
     }
 
-    /// Counts answers that card 4 changed. It took choices from none and values from no sum: what is
-    /// accepted now was accepted before.
+    /// Counts answers that card 4 changed. It forbids no choice, so that no reach is smaller, and lowers no
+    /// sum: what is accepted now was accepted before.
     fn count_change(
         &mut self,
         model: &[u32],

@@ -86,42 +86,46 @@ type Told = (&'static str, Result<(), Fault>);
 /// Tells the player and the search for witnesses things that are false of the worked cases; hands back
 /// how many.
 pub fn false_claims() -> Result<usize, Fault> {
-    false_claims_to(Miss::Full)
+    let told = told(Miss::Full)?;
+    match believed(&told).first() {
+        Some(what) => Err(Fault(format!("no objection to {what}"))),
+        None => Ok(told.len()),
+    }
 }
 
 /// What only a player refutes who counts a landing outside in full.
 const TOO_LOW: &str = "b = 9 with a landing outside";
 
-/// Tells them to players that count a landing outside for too little: they let that one pass.
+/// Tells them to players that count a landing outside for too little: they believe that one.
 pub fn flawed_players() -> Result<usize, Fault> {
     let players = [Miss::OnePowerShort, Miss::Nothing];
     for miss in players {
-        match false_claims_to(miss) {
-            Err(fault) if fault.0.ends_with(TOO_LOW) => {}
-            other => return Err(Fault(format!("{miss:?} does not show: {other:?}"))),
+        if !believed(&told(miss)?).contains(&TOO_LOW) {
+            return Err(Fault(format!("{miss:?} for a landing outside passes")));
         }
     }
     Ok(players.len())
 }
 
-fn false_claims_to(miss: Miss) -> Result<usize, Fault> {
+/// What no objection was made to.
+fn believed(told: &[Told]) -> Vec<&'static str> {
+    let believed = told.iter().filter(|(_, outcome)| outcome.is_ok());
+    believed.map(|(what, _)| *what).collect()
+}
+
+/// Everything false, and what came of it with a player that counts landings outside so.
+fn told(miss: Miss) -> Result<Vec<Told>, Fault> {
     let mut evidence = Evidence {
         miss,
         ..Evidence::default()
     };
-    let told: Vec<Told> = [
+    let told = [
         of_table(&mut evidence)?,
         of_cuts(&mut evidence)?,
         of_landings(&mut evidence)?,
         of_zones(&mut evidence),
-    ]
-    .into_iter()
-    .flatten()
-    .collect();
-    match told.iter().find(|(_, outcome)| outcome.is_ok()) {
-        Some((what, _)) => Err(Fault(format!("no objection to {what}"))),
-        None => Ok(told.len()),
-    }
+    ];
+    Ok(told.into_iter().flatten().collect())
 }
 
 /// What the worked table certifies.
@@ -264,11 +268,27 @@ fn objected(flaw: Flaw) -> Result<(String, usize), Fault> {
 #[cfg(test)]
 mod tests {
     use super::*;
+    use crate::worked;
 
     #[test]
     fn every_wrong_judge_is_caught() {
         let caught = wrong_judges();
         assert!(caught.is_ok(), "{caught:?}");
+    }
+
+    /// The worked cases of card 4 alone, whose answers were written by hand, tell every error that the
+    /// card invites.
+    #[test]
+    fn worked_cases_catch_flaws_of_landings() {
+        let passes = |flaw: &&Flaw| {
+            landings().into_iter().all(|case| {
+                let answer = flawed_judge(**flaw, &case.model, &case.table);
+                worked::line(answer) == case.line
+            })
+        };
+        let passed: Vec<&Flaw> = Flaw::of_landings().iter().filter(passes).collect();
+        assert_eq!(passed, [&Flaw::ForbidsLandingsOutside; 0]);
+        assert_eq!(Flaw::of_landings().len(), 20);
     }
 
     #[test]
@@ -313,7 +333,7 @@ mod tests {
 
     #[test]
     fn false_claims_are_objected_to() {
-        assert_eq!(false_claims().ok(), Some(48));
+        assert_eq!(false_claims().ok(), Some(68));
     }
 
     #[test]

@@ -3,6 +3,7 @@
 //! hand.
 
 use crate::comparer::Fault;
+use crate::reading::{Certificate, Refusal};
 use crate::sides::Side;
 use crate::spell;
 
@@ -101,49 +102,96 @@ pub fn landing_model(first: &[u32], target: &[u32]) -> Vec<u32> {
     [&MODEL[..8], first, &MODEL[8..9], target, &MODEL[9..]].concat()
 }
 
-/// Cases of card 4. The row reaches 2 to 3, so that "at most 3" holds for every landing and "below 3"
-/// for all but one, and "from 5 on" for none.
+/// Cases of card 4. The row reaches 2 to 3, so that "at most 3" holds for every landing, "below 3" for
+/// all but one, and "from 5 on" for none.
 pub fn landings() -> Vec<Case> {
-    let (at_most_2, at_most_3, below_3) = (0x51001002, 0x51001003, 0x51081003);
-    let (from_5, above_3, never) = (0x50100FFB, 0x50180FFD, 0x51000FFF);
-    let case = |model: Vec<u32>, table: &[u32], line| Case {
-        model,
-        table: table.to_vec(),
-        line,
-    };
-    let valued = |value: u32| with(&TABLE, 3, 0x90000000 | value);
-    let bounded = |table: &[u32], bound| [&table[..7], &[bound], &table[7..]].concat();
-    let blocked = [&TABLE[..4], &[0xA0000000], &TABLE[6..]].concat();
+    [landings_in_sums(), landings_held(), landings_by_choice()]
+        .into_iter()
+        .flatten()
+        .collect()
+}
+
+const AT_MOST_2: u32 = 0x51001002;
+const AT_MOST_3: u32 = 0x51001003;
+const BELOW_3: u32 = 0x51081003;
+const FROM_1: u32 = 0x50100FFF;
+const FROM_3: u32 = 0x50100FFD;
+const FROM_5: u32 = 0x50100FFB;
+const NEVER: u32 = 0x51000FFF;
+
+fn case(model: Vec<u32>, table: &[u32], line: &'static str) -> Case {
+    let table = table.to_vec();
+    Case { model, table, line }
+}
+
+/// The worked table with this value at node 0.
+fn valued(value: u32) -> Vec<u32> {
+    with(&TABLE, 3, 0x90000000 | value)
+}
+
+/// What an edge adds: 9 × 0 + 1 × 10, or 9 × 10 + 1 × 10.
+fn landings_in_sums() -> Vec<Case> {
     let first = |bound| landing_model(&[bound], &[]);
-    let at_target = |bound| landing_model(&[], &[bound]);
-    let empty_target = [&TABLE[..9], &[never], &TABLE[9..]].concat();
-    let worthless = with(&valued(0), 9, 0x90000000);
-    let shut = with(&landing_model(&[never], &[never]), 4, above_3);
+    let at_target = landing_model(&[], &[FROM_5]);
+    // Location 2 is no target.
+    let second = with(&at_target, 8, 0x20000000);
+    let worthless = |value| with(&valued(value), 9, 0x90000000);
     vec![
-        // 9 × 0 + 1 × 10, or 9 × 10 + 1 × 10.
-        case(first(at_most_3), &TABLE, "ACCEPTED 1 10 3"),
-        case(first(below_3), &valued(9), "REFUSED 19 4"),
-        case(first(below_3), &valued(10), "ACCEPTED 10 10 3"),
-        case(first(from_5), &valued(9), "REFUSED 19 4"),
-        // The choice is allowed all the same.
-        case(first(from_5), &blocked, "REFUSED 16 4"),
-        case(at_target(from_5), &blocked, "REFUSED 16 4"),
-        // A successor holds the landings inside, and no others.
-        case(
-            first(below_3),
-            &bounded(&valued(10), below_3),
-            "ACCEPTED 10 10 3",
-        ),
-        case(
-            first(below_3),
-            &bounded(&valued(10), at_most_2),
-            "REFUSED 18 4",
-        ),
-        case(at_target(from_5), &empty_target, "ACCEPTED 1 10 3"),
-        case(MODEL.to_vec(), &empty_target, "REFUSED 18 5"),
+        case(first(AT_MOST_3), &TABLE, "ACCEPTED 1 10 3"),
+        case(first(BELOW_3), &valued(9), "REFUSED 19 4"),
+        case(first(BELOW_3), &valued(10), "ACCEPTED 10 10 3"),
+        case(first(FROM_5), &valued(9), "REFUSED 19 4"),
+        case(second.clone(), &worthless(0), "REFUSED 19 4"),
+        case(second, &worthless(1), "ACCEPTED 1 10 3"),
         // V, whatever the target's node has, which comes later.
-        case(at_target(from_5), &worthless, "REFUSED 19 4"),
-        case(MODEL.to_vec(), &worthless, "REFUSED 15 9"),
+        case(at_target.clone(), &worthless(0), "REFUSED 19 4"),
+        case(at_target, &TABLE, "ACCEPTED 1 10 3"),
+        case(MODEL.to_vec(), &worthless(0), "REFUSED 15 9"),
+    ]
+}
+
+/// A successor has the edge's location and holds the landings inside, and no others.
+fn landings_held() -> Vec<Case> {
+    let first = |bound| landing_model(&[bound], &[]);
+    let at_target = landing_model(&[], &[FROM_5]);
+    let bounded = |value, bound| {
+        let table = valued(value);
+        [&table[..7], &[bound], &table[7..]].concat()
+    };
+    let empty_target = [&TABLE[..9], &[NEVER], &TABLE[9..]].concat();
+    let elsewhere = with(&valued(10), 4, 0xB0000002);
+    vec![
+        case(first(BELOW_3), &bounded(10, BELOW_3), "ACCEPTED 10 10 3"),
+        case(first(BELOW_3), &bounded(10, AT_MOST_2), "REFUSED 18 4"),
+        case(at_target.clone(), &empty_target, "ACCEPTED 1 10 3"),
+        case(MODEL.to_vec(), &empty_target, "REFUSED 18 5"),
+        case(first(FROM_5), &elsewhere, "REFUSED 17 4"),
+        // The first edge lands inside, though the second does not.
+        case(at_target, &bounded(1, NEVER), "REFUSED 18 4"),
+    ]
+}
+
+/// Which choices are allowed, and where they land.
+fn landings_by_choice() -> Vec<Case> {
+    let first = |bound| landing_model(&[bound], &[]);
+    let blocked = [&TABLE[..4], &[0xA0000000], &TABLE[6..]].concat();
+    let above_3 = 0x50180FFD;
+    let shut = with(&landing_model(&[NEVER], &[NEVER]), 4, above_3);
+    // From 2 on and below 3: at scale 1 only 2.
+    let narrow = landing_model(&[AT_MOST_2], &[]);
+    let narrow = [&narrow[..5], &[BELOW_3], &narrow[5..]].concat();
+    let reset = |bound| with(&first(bound), 5, 0x40110009);
+    // A fourth node, from which nothing is below 3.
+    let late = [0x80000000, FROM_3, 0x90000001, 0xB0000001, 0xB0000002];
+    let late = [&valued(10)[..10], &late, &TABLE[10..]].concat();
+    vec![
+        case(first(FROM_5), &blocked, "REFUSED 16 4"),
+        case(landing_model(&[], &[FROM_5]), &blocked, "REFUSED 16 4"),
+        case(narrow.clone(), &valued(9), "REFUSED 19 4"),
+        case(narrow, &valued(10), "ACCEPTED 10 10 3"),
+        case(reset(AT_MOST_2), &TABLE, "ACCEPTED 1 10 3"),
+        case(reset(FROM_1), &valued(9), "REFUSED 19 4"),
+        case(first(FROM_3), &late, "ACCEPTED 10 10 4"),
         // What is never chosen lands nowhere.
         case(shut, &TABLE, "ACCEPTED 1 10 3"),
     ]
@@ -161,13 +209,7 @@ pub fn all() -> Vec<Case> {
 pub fn check(side: &dyn Side) -> Result<(), Fault> {
     for case in all() {
         let words = [&case.model[..], &case.table].concat();
-        let judged = match side.judge(&case.model, &case.table) {
-            Ok(accepted) => format!(
-                "ACCEPTED {} {} {}",
-                accepted.b, accepted.whole, accepted.nodes
-            ),
-            Err(refusal) => format!("REFUSED {} {}", refusal.number, refusal.place),
-        };
+        let judged = line(side.judge(&case.model, &case.table));
         expect(&spell::hex(&words), case.line, &judged)?;
         let printed = side.program(&spell::bytes(&words));
         expect(&spell::hex(&words), &format!("{}\n", case.line), &printed)?;
@@ -191,6 +233,14 @@ pub fn check(side: &dyn Side) -> Result<(), Fault> {
         &empty(&[0x50180FFE, 0x51081003]),
     )?;
     expect("at most -1", "Some(true)", &empty(&[0x51000FFF]))
+}
+
+/// An answer as the program writes it, without the line feed.
+pub fn line(answer: Result<Certificate, Refusal>) -> String {
+    match answer {
+        Ok(Certificate { b, whole, nodes }) => format!("ACCEPTED {b} {whole} {nodes}"),
+        Err(Refusal { number, place }) => format!("REFUSED {number} {place}"),
+    }
 }
 
 fn expect(input: &str, wanted: &str, answered: &str) -> Result<(), Fault> {

@@ -110,6 +110,12 @@ impl Flaw {
         Flaw::ForgetsTheStrictnessOfTheInvariant,
         Flaw::ForgetsTheLowerBoundsOfTheInvariant,
     ];
+
+    /// Those that card 4 invites; they stand last.
+    pub fn of_landings() -> &'static [Flaw] {
+        let first = Flaw::ForbidsLandingsOutside as usize;
+        &Flaw::ALL[first..]
+    }
 }
 
 pub fn flawed_judge(flaw: Flaw, model: &[u32], table: &[u32]) -> Result<Certificate, Refusal> {

@@ -63,13 +63,13 @@ fn an_edge_that_can_land_outside_adds_v() {
     assert_eq!(judged(1, &[below(1, 0, 4)], 0), refused(18, 3));
     assert_eq!(judged(0, &[below(1, 0, 4)], 0), refused(18, 3));
     assert_eq!(judged(1, &[below(0, 1, 0)], 0), refused(18, 3));
-    // From a zone that keeps clear of 4, and cannot wait, none is outside.
-    let still = one_edge(&[at_most(1, 0, 4)], &[], 0, &[at_most(1, 0, 4)]);
+    // Where the source's invariant ends at 4 as well, none is outside.
+    let alike = one_edge(&[at_most(1, 0, 4)], &[], 0, &[at_most(1, 0, 4)]);
     assert_eq!(
-        judge(&still, &table(&[], 0, TO_1, &[], 0)),
+        judge(&alike, &table(&[], 0, TO_1, &[], 0)),
         accepted(0, 1, 2)
     );
-    assert_eq!(judge(&still, &table(&[], 0, TO_1, &[], 1)), refused(19, 3));
+    assert_eq!(judge(&alike, &table(&[], 0, TO_1, &[], 1)), refused(19, 3));
 }
 
 #[test]
@@ -180,23 +180,22 @@ fn an_empty_reach_lands_nowhere() {
 
 #[test]
 fn only_what_the_row_reaches() {
-    // From 2 on the landings of node 0 are above 1; those of a node up to 1, which cannot wait any
-    // longer, are not.
-    let model = [
-        0x1110000A, 0x20000000, 0x51001001, 0x30000000, 0x4001000A, 0x20000000, 0x51001000,
-        0x60000000, 0x51001000,
-    ];
-    let table = |value: u32, zone: u32| {
-        let node: &[u32] = &[0x7000000A, 0x80000000, zone, 0x90000000 | value, TO_1];
-        [node, &[0x81000000, 0x90000000, 0xC0000000]].concat()
-    };
-    assert_eq!(judge(&model, &table(0, 0x51001000)), refused(19, 4));
-    assert_eq!(judge(&model, &table(10, 0x51001000)), accepted(10, 10, 2));
-    // Without a wait only 0 lands, which is inside.
-    let still = with(&model, 2, 0x51001000);
-    assert_eq!(judge(&still, &table(0, 0x51001000)), accepted(0, 10, 2));
-    // A zone that goes on above the invariant has no states there.
-    assert_eq!(judge(&still, &table(0, 0x51001FFF)), accepted(0, 10, 2));
+    // Landings from 2 on are inside. From a node that begins at 2 there are no others, though the start
+    // is elsewhere; from one that begins at 0 there are.
+    let from_2 = [at_most(0, 1, -2)];
+    let model = one_edge(&[], &[], 0, &from_2);
+    let judged = |model: &[u32], zone: &[u32]| judge(model, &table(zone, 0, TO_1, &[], 0));
+    assert_eq!(judged(&model, &from_2), refused(21, 7));
+    assert_eq!(judged(&model, &[]), refused(19, 3));
+    // The guard, or the invariant, lets only those land; the zone as it is written goes further.
+    assert_eq!(
+        judged(&one_edge(&[], &from_2, 0, &from_2), &[]),
+        accepted(0, 1, 2)
+    );
+    assert_eq!(
+        judged(&one_edge(&from_2, &[], 0, &from_2), &[]),
+        accepted(0, 1, 2)
+    );
 }
 
 #[test]
