@@ -100,18 +100,39 @@ fn named(answer: &Answer) -> String {
 
 /// What was tried valuation by valuation.
 pub fn evidence(evidence: &Evidence, tally: &Tally) -> String {
-    let accepted = tally
-        .answers
-        .get(&("judge", Answer::Accepted))
-        .copied()
-        .unwrap_or(0);
+    let searched = [
+        format!(
+            "their rows, parts and starts searched for a witness in vain: {}, left out as too large: {}",
+            evidence.fruitless, evidence.fruitless_left_out
+        ),
+        format!(
+            "refusals with a witness found: {}; left out as too large: {}; by first scale: {}; refusals 19 by the values alone: {}",
+            listed(&evidence.witnesses),
+            listed(&evidence.witnesses_left_out),
+            listed(&evidence.first_scales),
+            evidence.too_large_by_values
+        ),
+        format!(
+            "zone questions answered by trying valuations: {}, left out as too large: {}",
+            evidence.zones, evidence.zones_left_out
+        ),
+    ];
+    [&played(evidence, tally)[..], &searched]
+        .concat()
+        .join("\n")
+        + "\n"
+}
+
+/// What the player came to.
+fn played(evidence: &Evidence, tally: &Tally) -> [String; 4] {
+    let accepted = tally.answers.get(&("judge", Answer::Accepted));
     let offered = evidence.played + evidence.played_in_part;
-    let lines = [
+    [
         format!(
             "accepted tables played at scales 1 to 6: {}, too large at some of them: {}, not offered: {}; plays {}, claims of nodes upheld {}",
             evidence.played,
             evidence.played_in_part,
-            accepted.saturating_sub(offered),
+            accepted.copied().unwrap_or(0).saturating_sub(offered),
             evidence.plays,
             evidence.claims
         ),
@@ -130,23 +151,7 @@ pub fn evidence(evidence: &Evidence, tally: &Tally) -> String {
             "played tables refuted when the start's value is lowered by one: {}, of these with a landing outside and a fraction below 1: {}",
             evidence.tight, evidence.tight_with_miss
         ),
-        format!(
-            "their rows, parts and starts searched for a witness in vain: {}, left out as too large: {}",
-            evidence.fruitless, evidence.fruitless_left_out
-        ),
-        format!(
-            "refusals with a witness found: {}; left out as too large: {}; by first scale: {}; refusals 19 by the values alone: {}",
-            listed(&evidence.witnesses),
-            listed(&evidence.witnesses_left_out),
-            listed(&evidence.first_scales),
-            evidence.too_large_by_values
-        ),
-        format!(
-            "zone questions answered by trying valuations: {}, left out as too large: {}",
-            evidence.zones, evidence.zones_left_out
-        ),
-    ];
-    lines.join("\n") + "\n"
+    ]
 }
 
 /// What the boards came to.

@@ -265,19 +265,24 @@ fn tried([zone, invariant, guard, landing, successor]: &[Vec<Bound>; 5], resets:
     tried
 }
 
+/// Bounds for `tried`. Invariants and guards bound single clocks; fewer bounds leave more to land.
+fn some_row(dice: &mut Dice) -> [Vec<Bound>; 5] {
+    let mut zones = [0; 5].map(|_| some_bounds(dice));
+    for zone in &mut zones[1..4] {
+        zone.retain(|bound| bound.i == 0 || bound.j == 0);
+        zone.truncate(dice.below(3) as usize);
+    }
+    zones[4].truncate(dice.below(2) as usize);
+    zones
+}
+
 /// 16, 18 and 19 of a row with one edge, against what is tried.
 #[test]
 fn rows_by_valuations() {
     let mut dice = Dice(6);
     let mut counts = std::collections::BTreeMap::new();
     for _ in 0..10_000 {
-        let mut zones = [0; 5].map(|_| some_bounds(&mut dice));
-        // Invariants and guards bound single clocks; fewer bounds leave more to land.
-        for zone in &mut zones[1..4] {
-            zone.retain(|bound| bound.i == 0 || bound.j == 0);
-            zone.truncate(dice.below(3) as usize);
-        }
-        zones[4].truncate(dice.below(2) as usize);
+        let zones = some_row(&mut dice);
         let (resets, value, next) = (dice.below(4), dice.below(2), dice.below(2));
         let row = [BLOCKED, TO_1, TO_1, TO_1][dice.below(4) as usize];
         let found = tried(&zones, resets);
