@@ -92,7 +92,7 @@ while IFS='|' read -r _ files command prints _; do
     rows=$((rows + 1))
     listed+=$files
 done <examples/README.md
-if ((rows >= 5)); then ok; else wrong "examples/README.md lists only $rows commands"; fi
+if ((rows >= 6)); then ok; else wrong "examples/README.md lists only $rows commands"; fi
 for file in examples/*.hex; do
     if [[ $listed = *"\`${file##*/}\`"* ]]; then ok; else wrong "$file is not listed in examples/README.md"; fi
     if [[ $(head -n 1 "$file") = '# '* ]]; then ok; else wrong "$file does not begin with a line on what it shows"; fi
@@ -139,6 +139,10 @@ sed '15s/.*/90000000/' "$here/words.hex" >"$here/low.hex"
 says 'a value too low' 'REFUSED 19 4' "$judge" "$here/low.hex"
 hex examples/split.hex | sed '42s/.*/B0000003/; 43s/.*/B0000002/' >"$here/parts.hex"
 says 'the parts of a cut the wrong way round' 'REFUSED 53 11' "$judge" "$here/parts.hex"
+hex examples/propulsion.hex | sed '19s/.*/90000002/' >"$here/outside.hex"
+says 'a value too low for a landing outside' 'REFUSED 19 4' "$judge" "$here/outside.hex"
+hex examples/propulsion.hex | sed '4s/$/\n51001003/; 19s/.*/90000002/' >"$here/inside.hex"
+says 'a guard that keeps the landing inside' 'ACCEPTED 2 100 4' "$judge" "$here/inside.hex"
 says 'a model and no table' 'REFUSED 11 0' "$judge" $model
 says 'a table and no model' 'REFUSED 1 0' "$judge" $table
 { hex $model && yes 51001000 | head -n $((16384 - 11)); } >"$here/full.hex"
