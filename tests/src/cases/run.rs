@@ -16,9 +16,9 @@ use crate::spell;
 const LEAST: [(&str, &[&str], usize); 5] = [
     ("zone cases", &["zone_empty", "zone_inside"], 519),
     ("model cases", &["read_model"], 1627),
-    ("judge cases", &["judge"], 3481),
+    ("judge cases", &["judge"], 3483),
     ("histories of a board", &["board"], 364),
-    ("whole files", &["program"], 4956),
+    ("whole files", &["program"], 4958),
 ];
 
 /// What a run came to.
