@@ -5,6 +5,7 @@ pub mod RowReach
 pub mod ReachSizes
 pub mod RowLaws
 pub mod LandingLaws
+pub mod EdgeLaws
 pub mod WalkLaws
 pub mod Walking
 pub mod WalkRanges

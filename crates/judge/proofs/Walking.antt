@@ -1,31 +1,26 @@
 -- The walk decides the checks 15 to 19, and 51 to 53 of cuts. Assumes nothing.
 use Prim.Native.Nat.{ℕ, suc, _+_, _-_, _*_, _≤_, _<_}
 use mathlib.Core.Path.{_≡_, refl, sym, ap, ap₂, _∙_}
-use mathlib.Core.Logic.{_↔_, inl, inr}
-use mathlib.Core.Bool.{Bool, true, false, not, cond, _&&_, _||_}
+use mathlib.Core.Logic.{_↔_}
+use mathlib.Core.Bool.{Bool, true, false, cond, _&&_, _||_}
 use mathlib.Core.List.{List, [], _∷_, _++_}
 use native.Mathlib.Omega.{arith}
 use borrow.Author.Tests.{eqb-true, eqb-false, eq-eqb, leb-true, leb-false, le-leb, ltb-true, ltb-false}
 use lib.Dec.{eqb, leb, ltb}
 use lib.ListN.{getD, length, drop}
-use Rattle.zone.specs.Scale.{Zone, in?, Region, within, Empty, Inside}
-use Rattle.zone.specs.Moves.{ResetOf}
-use Rattle.zone.specs.Checks.{refused, Check, check, First}
-use Rattle.zone.specs.Squares.{universe, resetSquare, empty?, inside?}
+use Rattle.zone.specs.Scale.{Zone, Region}
+use Rattle.zone.specs.Checks.{check, First}
+use Rattle.zone.specs.Squares.{universe, empty?, inside?}
 use Rattle.zone.specs.Stores.{zoneAt}
 use Rattle.zone.specs.declared.zones.Zone.{Zone as Square}
-use Rattle.zone.proofs.Bools.{true-false, left-true, right-true, or-false, untrue}
-use Rattle.zone.proofs.Regions.{inBoth}
-use Rattle.zone.proofs.Spans.{Beyond}
-use Rattle.zone.proofs.CheckLaws.{first-join, first-before, first-holds}
+use Rattle.zone.proofs.Bools.{true-false, left-true, right-true}
 use Rattle.model.specs.TableKinds.{blocked, cut, isTable}
-use Rattle.model.specs.Fields.{maskOf, landsAt, weightOf}
 use Rattle.model.specs.Scan.{guardsAt}
-use Rattle.model.specs.Model.{Edge, Action, Location, Model, edgeOf}
+use Rattle.model.specs.Model.{Edge, Action, Location, Model}
 use Rattle.model.specs.States.{locationAt}
 use Rattle.model.specs.Index.{Kept as ModelKept}
 use Rattle.model.specs.Indexed.{Each, withBounds, EdgeAt, LocationAt, Indexed}
-use Rattle.model.proofs.ZoneLaws.{All, empty, more, GoodZone}
+use Rattle.model.proofs.ZoneLaws.{All, empty, more}
 use Rattle.model.proofs.GoodModel.{GoodModel}
 use Rattle.model.proofs.WellFormed.{FormedEdge, WellFormed}
 use Rattle.model.proofs.IndexLaws.{location-at}
@@ -38,58 +33,21 @@ use Rattle.table.specs.Indexed.{NodeIs, TableIndexed}
 use Rattle.table.specs.declared.nodes.NodeEntry.{NodeEntry}
 use Rattle.table.specs.declared.read.TableRead.{TableRead}
 use Rattle.table.proofs.Shape.{RowStands, RowsStand, CutStands, BodyStands, NodeShaped, Shaped}
-use Rattle.acceptance.specs.Acceptance.{Reach, HasLocation, landings, landingsInside, HoldsLandings, CanLandOutside, Worth, SumOf, SumFits, Matches}
+use Rattle.acceptance.specs.Acceptance.{SumOf, SumFits, Matches}
 use Rattle.acceptance.specs.Judging.{successorChecks, rowChecks, rowsChecks, partChecks, cutChecks, bodyChecks, nodeChecks, nodesChecks}
-use Rattle.acceptance.proofs.SumLaws.{inside-cannot, sum-one}
-use Rattle.judge.specs.Reaching.{common, waitedSquare, limitedBelow, landsInside?}
-use Rattle.judge.specs.Landing.{heldFinding, landingsOutcome, successorOutcome}
+use Rattle.acceptance.proofs.SumLaws.{sum-one, sum-there}
+use Rattle.judge.specs.Reaching.{common, waitedSquare, limitedBelow}
+use Rattle.judge.specs.Landing.{successorOutcome}
 use Rattle.judge.specs.Findings.{orElse, findingAnswer}
 use Rattle.judge.specs.Cutting.{partFinding, cutFinding}
 use Rattle.judge.specs.Walk.{successorsFrom, rowsFrom, rowsFinding, nodeFinding, nodesFrom, walked}
 use Rattle.judge.specs.declared.findings.Finding.{Finding}
 use Rattle.judge.specs.declared.findings.Finding.the-variants as finding
-use Rattle.judge.specs.declared.landing.Outcome.{Outcome}
+use Rattle.judge.proofs.FindingLaws.{Finds, finds-first, none-found, decides, found-as}
+use Rattle.judge.proofs.EdgeLaws.{Reached, comes, all-known}
 use Rattle.judge.proofs.RowLaws.{front, beyond, behind, node-at, shaped-at, ActionIs, actions-at, actions-count, edges-at}
-use Rattle.judge.proofs.LandingLaws.{limited-at, unlimited}
 use Rattle.judge.proofs.PartLaws.{Decides, holding-decides, rest-decides}
 use Rattle.judge.proofs.RowReach.{blocked-yes, blocked-no, onward-yes, onward-no, part-decides}
-
--- what checks in an order find: the first that does not hold
-record Finds (cs : List Check) (f : Finding) : Type 0 where
-  says : First cs (λ (_ : Unit {0}). Unit {0}) (findingAnswer f)
-
--- checks in front of others find first; the others are asked where those find nothing
-finds-first : (cs ds : List Check) (f g : Finding) → Finds cs f → (f ≡ finding.None → Finds ds g) → Finds (cs ++ ds) (orElse f g)
-unfolding orElse findingAnswer
-finds-first cs ds finding.None g h i = record { says = first-join cs ds _ _ (first-holds cs _ tt (h .says) .0) (i refl .says) }
-finds-first cs ds (finding.BadTargetValue p) g h i = record { says = first-before cs ds _ _ 15 p (h .says) }
-finds-first cs ds (finding.NotBlocked p) g h i = record { says = first-before cs ds _ _ 16 p (h .says) }
-finds-first cs ds (finding.WrongLocation p) g h i = record { says = first-before cs ds _ _ 17 p (h .says) }
-finds-first cs ds (finding.NotInside p) g h i = record { says = first-before cs ds _ _ 18 p (h .says) }
-finds-first cs ds (finding.SumTooLarge p) g h i = record { says = first-before cs ds _ _ 19 p (h .says) }
-finds-first cs ds (finding.PartNotAbove p) g h i = record { says = first-before cs ds _ _ 51 p (h .says) }
-finds-first cs ds (finding.PartMismatch p) g h i = record { says = first-before cs ds _ _ 52 p (h .says) }
-finds-first cs ds (finding.PartNotInside p) g h i = record { says = first-before cs ds _ _ 53 p (h .says) }
-
--- a wrong location is found
-located : (p : ℕ) → finding.WrongLocation p ≡ finding.None → ⊥
-located p e = let z : _≡_ {A = ℕ} 0 1 = cc in omega arith
-
--- no check finds nothing
-none-found : Finds [] finding.None
-unfolding findingAnswer
-none-found = record { says = tt }
-
--- a test that decides whether a check holds, in front of others
-decides :
-    {c : Check} {cs : List Check} (b : Bool) (f g : Finding) → (b ≡ true → c .holds) → (b ≡ false → c .holds → ⊥) →
-    findingAnswer f ≡ refused (c .number) (c .place) → Finds cs g → Finds (c ∷ cs) (cond b g f)
-decides true f g pass fail e h = record { says = inl (pass refl, h .says) }
-decides false f g pass fail e h = record { says = inr (fail refl, e) }
-
--- the same checks and finding, written in another way
-found-as : {cs ds : List Check} {f g : Finding} → Finds cs f → ds ≡ cs → g ≡ f → Finds ds g
-found-as h e i = rw (e, i) h
 
 -- ---- the words from a place on
 
@@ -100,18 +58,6 @@ next at words ws e = let z : at + 1 ≡ suc at = omega arith in rw (← z) (behi
 number-next : (k : ℕ) (ws : List ℕ) → numberOf (getD (drop 1 ws) k 0) ≡ numberOf (getD ws (suc k) 0)
 number-next k [] = refl
 number-next k (w ∷ ws) = refl
-
--- ---- what the square table of a row's reach decides
-
-record Reached (M : Model) (N : Node) (A : Action) (z : Square) : Type 0 where
-  blocked-pass : empty? z ≡ true → Empty (Reach M N A)
-  blocked-fail : empty? z ≡ false → Empty (Reach M N A) → ⊥
-  onward-pass : empty? z ≡ false → (mask : ℕ) (S : Zone) → GoodZone S → inside? (resetSquare mask z) (withBounds S universe) ≡ true →
-      Inside (ResetOf mask (Reach M N A)) (within S)
-  onward-fail : empty? z ≡ false → (mask : ℕ) (S : Zone) → GoodZone S → inside? (resetSquare mask z) (withBounds S universe) ≡ false →
-      Beyond (ResetOf mask (Reach M N A)) (within S)
-  part : empty? z ≡ false → (mask : ℕ) (S : Zone) → GoodZone S →
-      Decides (inBoth (ResetOf mask (Reach M N A)) (within S)) (common (resetSquare mask z) (withBounds S universe))
 
 -- what is kept of a node
 abbrev entryFor : Node → NodeEntry
@@ -142,129 +88,6 @@ module _ (M : Model) (words : List ℕ) (m : ModelKept) (t : TableRead) (k : Kep
 
   -- ---- the successors of a row
   module _ (N : Node) (A : Action) (reach : Square) (z : Reached M N A reach) where
-    -- what an edge with its successor comes to: the checks 17 and 18 and, where both hold, what it has in the sum
-    record Comes (E : Edge) (S : Successor) (o : Outcome) : Type 0 where
-      finds : Finds (check 17 (S .place) (HasLocation W E S) ∷ check 18 (S .place) (HoldsLandings M W N A E S) ∷ []) (o .finding)
-      adds : o .finding ≡ finding.None → (y : ℕ) × Worth M W N A E S y × (o .share ≡ E .weight * y)
-
-    -- an edge that lands at a location that exists
-    module _ (E : Edge) (f : FormedEdge M E) where
-      abbrev invariant : Zone
-      invariant = locationAt M (E .to) .invariant
-
-      abbrev invariantTable : Square
-      invariantTable = withBounds invariant universe
-
-      table-is : zoneAt (m .zones) (E .to) ≡ invariantTable
-      table-is = location-at x (E .to) (f .to) .invariant
-
-      good-invariant : GoodZone invariant
-      good-invariant = good .invariants (E .to)
-
-      abbrev landed : Square
-      landed = resetSquare (E .mask) reach
-
-      module _ (filled : empty? reach ≡ false) where
-        lands-pass : landsInside? (m .zones) limited (E .to) landed ≡ true → Inside (landings M N A E) (within invariant)
-        unfolding landsInside?
-        lands-pass h =
-            by (inside? universe (zoneAt (m .zones) (E .to))) refl (rw (limited-at (m .zones) (m .index .locations) (E .to) there (x .limit)) at h)
-          where
-            there : E .to < m .index .locations
-            there = omega (arith, f .to, x .locations)
-
-            by : (c : Bool) → inside? universe (zoneAt (m .zones) (E .to)) ≡ c → (not (not c) || inside? landed (zoneAt (m .zones) (E .to))) ≡ true →
-                Inside (landings M N A E) (within invariant)
-            by true e h = record { at = λ k k₁ v p. unlimited invariant good-invariant (rw table-is at e) k k₁ v }
-            by false e h = z .onward-pass filled (E .mask) invariant good-invariant (rw table-is at h)
-
-        lands-fail : landsInside? (m .zones) limited (E .to) landed ≡ false → CanLandOutside M N A E
-        unfolding landsInside? within
-        lands-fail h =
-            let p : Beyond (landings M N A E) (within invariant) =
-            z .onward-fail filled (E .mask) invariant good-invariant (rw table-is at (or-false (not (getD limited (E .to) false)) _ h)) in
-            record {
-              scale = p .scale;
-              positive = p .positive;
-              valuation = p .valuation;
-              lands = p .holds;
-              outside = untrue (in? (p .scale) (p .valuation) invariant) (p .fails);
-            }
-
-      module _ (s p : ℕ) (l : s < length (W .nodes)) where
-        abbrev S : Successor
-        S = record { node = s; place = p }
-
-        abbrev zone : Zone
-        zone = nodeAt W s .zone
-
-        -- nothing lands
-        comes-empty : empty? reach ≡ true → nodeAt W s .location ≡ E .to → Comes E S (record { finding = finding.None; share = E .weight * nodeAt W s .value })
-        unfolding landingsInside findingAnswer
-        comes-empty e q = record {
-          finds = record {
-            says = inl (q, inl (record { at = λ k k₁ v h. absurd (z .blocked-pass e .at k k₁ (h .0 .before) (h .0 .was)) }, tt));
-          };
-          adds = λ _. (nodeAt W s .value, inr ((λ o. z .blocked-pass e .at (o .scale) (o .positive) (o .lands .before) (o .lands .was)), refl), refl);
-        }
-
-        -- every landing is inside
-        comes-inside : empty? reach ≡ false → nodeAt W s .location ≡ E .to → Inside (landings M N A E) (within invariant) →
-            Comes E S (record { finding = heldFinding landed false (withBounds zone universe) p; share = E .weight * nodeAt W s .value })
-        unfolding landingsInside heldFinding findingAnswer
-        comes-inside e q all = record {
-          finds = record {
-            says = inl (q, decides {c = check 18 p (HoldsLandings M W N A E S)} (inside? landed (withBounds zone universe)) (finding.NotInside p) _
-                (λ h. record { at = λ k k₁ v r. z .onward-pass e (E .mask) zone (shaped-at sh s l .zone) h .at k k₁ v (r .0) })
-                (λ h m. let b = z .onward-fail e (E .mask) zone (shaped-at sh s l .zone) h in
-                b .fails (m .at (b .scale) (b .positive) (b .valuation) (b .holds, all .at (b .scale) (b .positive) (b .valuation) (b .holds))))
-                refl none-found .says);
-          };
-          adds = λ _. (nodeAt W s .value, inr (inside-cannot M W N A E all, refl), refl);
-        }
-
-        -- some landing is outside
-        comes-outside : empty? reach ≡ false → nodeAt W s .location ≡ E .to → CanLandOutside M N A E →
-            let part : Square = common landed invariantTable in
-            Comes E S (record { finding = heldFinding part (empty? part) (withBounds zone universe) p; share = E .weight * t .whole })
-        unfolding landingsInside heldFinding findingAnswer
-        comes-outside e q can = record {
-          finds = record {
-            says = inl (q, decides _ (finding.NotInside p) _
-                (z .part e (E .mask) invariant good-invariant .pass zone (shaped-at sh s l .zone))
-                (z .part e (E .mask) invariant good-invariant .fail zone (shaped-at sh s l .zone)) refl none-found .says);
-          };
-          adds = λ _. (t .whole, inl (can, i .whole), refl);
-        }
-
-        comes : (w : ℕ) → edgeOf w ≡ E → Comes E S (successorOutcome reach (empty? reach) w (m .zones) limited (t .whole) k s p)
-        unfolding successorOutcome landingsOutcome findingAnswer
-        comes w e =
-            let to : landsAt w ≡ E .to = ap (λ (E : Edge). E .to) e in
-            let mask : maskOf w ≡ E .mask = ap (λ (E : Edge). E .mask) e in
-            let weight : weightOf w ≡ E .weight = ap (λ (E : Edge). E .weight) e in
-            rw (to, mask, weight, node-at i s l .location, node-at i s l .value, node-at i s l .zone)
-            (by (eqb (nodeAt W s .location) (E .to)) refl (empty? reach) refl (landsInside? (m .zones) limited (E .to) landed) refl)
-          where
-            part : Square
-            part = common landed (zoneAt (m .zones) (E .to))
-
-            by : (c : Bool) → eqb (nodeAt W s .location) (E .to) ≡ c → (d : Bool) → empty? reach ≡ d → (b : Bool) →
-                landsInside? (m .zones) limited (E .to) landed ≡ b →
-                Comes E S
-                (cond c
-                (cond d (record { finding = finding.None; share = E .weight * nodeAt W s .value })
-                (cond b (record { finding = heldFinding landed false (withBounds zone universe) p; share = E .weight * nodeAt W s .value })
-                (record { finding = heldFinding part (empty? part) (withBounds zone universe) p; share = E .weight * t .whole })))
-                (record { finding = finding.WrongLocation p; share = 0 }))
-            by true q true e b o = comes-empty e (eqb-true _ _ q)
-            by true q false e true o = comes-inside e (eqb-true _ _ q) (lands-pass e o)
-            by true q false e false o = rw table-is (comes-outside e (eqb-true _ _ q) (lands-fail e o))
-            by false q d e b o = record {
-              finds = record { says = inr (eqb-false _ _ q, refl) };
-              adds = λ f. absurd (located p f);
-            }
-
     -- the sum so far with what the edges add is at most the limit exactly where Q holds
     successors-found :
         (limit first : ℕ) (Q : Type 0) (Es : List Edge) (e at sum : ℕ) (ws : List ℕ) → Each (EdgeAt m) e Es → All (FormedEdge M) Es →
@@ -273,19 +96,19 @@ module _ (M : Model) (words : List ℕ) (m : ModelKept) (t : TableRead) (k : Kep
         Finds (successorChecks M W N A Es (successorsOf (length Es) at ws) ++ (check 19 first Q ∷ []))
         (successorsFrom words (t .whole) m limited k reach (empty? reach) limit first (length Es) e at sum)
     unfolding Each successorChecks successorsOf successorsFrom findingAnswer
-    successors-found limit first Q [] e at sum ws x empty d l q =
+    successors-found limit first Q [] e at sum ws ys empty d l q =
         let all : sum + 0 ≡ sum = omega arith in
         let same : (sum ≤ limit) ↔ Q = rw all at (q 0 refl) in
         decides (leb sum limit) (finding.SumTooLarge first) _ (λ b. same .0 (leb-true sum limit b))
         (λ b h. let g : limit < sum = leb-false sum limit b in let n : sum ≤ limit = same .1 h in omega arith) refl none-found
-    successors-found limit first Q (E ∷ Es) e at sum ws x (more f fs) d l q =
+    successors-found limit first Q (E ∷ Es) e at sum ws ys (more f fs) d l q =
         let w : ℕ = getD (m .edges) e 0 in
         let s : ℕ = numberOf (getD ws 0 0) in
-        let c = comes E f s at (l 0 (omega arith)) w (x .0 .reads) in
+        let c = comes M words m t k x good W i sh N A reach z E f s at (l 0 (omega arith)) w (ys .0 .reads) in
         let share : ℕ = successorOutcome reach (empty? reach) w (m .zones) limited (t .whole) k s at .share in
         rw (front at words ws d) (finds-first (_ ∷ _ ∷ []) _ _ _ (c .finds) (λ none.
         let a = c .adds none in
-        successors-found limit first Q Es (suc e) (suc at) (sum + share) (drop 1 ws) (x .1) fs (next at words ws d)
+        successors-found limit first Q Es (suc e) (suc at) (sum + share) (drop 1 ws) (ys .1) fs (next at words ws d)
         (λ j h. rw (number-next j ws) (l (suc j) (omega arith)))
         (λ r o.
         let plus : sum + share + r ≡ sum + (E .weight * a .0 + r) = omega (arith, a .2) in
@@ -307,6 +130,10 @@ module _ (M : Model) (words : List ℕ) (m : ModelKept) (t : TableRead) (k : Kep
       onward-fail = onward-no x good N (g .exists) (g .zone) (y .at) (y .good);
       part = part-decides x good N (g .exists) (g .zone) (y .at) (y .good);
     }
+
+    -- each row has a sum, and by `sum-one` no other
+    pub row-sum : (a : ℕ) (A : Action) → ActionIs M m a A → (ss : List Successor) → (r : ℕ) × SumOf M W N A (A .edges) ss r
+    row-sum a A y ss = sum-there M W N A (A .edges) ss (all-known M words m t k x good W i sh N A (rowReach a) (reached a A y) (A .edges) (y .formed .edges))
 
     -- n successors of the action a from a place on, where D is the denominator
     abbrev successorsFinding : ℕ → ℕ → ℕ → ℕ → Finding
