@@ -1,7 +1,7 @@
 -- What the parts of the call return decides its verdict. Assumes nothing.
 use Prim.Native.Nat.{ℕ, _≤_, _<_}
 use mathlib.Core.Path.{_≡_, refl, sym, ap, subst, _∙_}
-use mathlib.Core.Bool.{Bool, true, false}
+use mathlib.Core.Bool.{true, false}
 use mathlib.Core.List.{List, [], _∷_}
 use native.Mathlib.Omega.{arith}
 use lib.IntN.{ℤ}
@@ -38,7 +38,7 @@ use Rattle.table.proofs.Shape.{NodeShaped, Shaped, shaped}
 use Rattle.acceptance.specs.Acceptance.{startValuations, certified}
 use Rattle.acceptance.specs.Judging.{nodesChecks, certificateOf, Judged, Exactly, BoundsSchedulers}
 use Rattle.judge.specs.Verdicts.{verdictAnswer}
-use Rattle.judge.specs.Reaching.{limitedBelow}
+use Rattle.judge.specs.Reaching.{containedBelow, NodesAsked}
 use Rattle.judge.specs.Walk.{walked, WalkAsked}
 use Rattle.judge.specs.Findings.{findingAnswer}
 use Rattle.judge.specs.Deciding.{HandsOn, startVerdict}
@@ -119,12 +119,6 @@ module _ (words : List ℕ) (r : ModelRead) (es : List ℕ) (zs : List ℤ) (m :
   pub fits : IndexFits (r .index)
   fits = index-fits formed x
 
-  pub few-locations : r .index .locations ≤ 16
-  few-locations = x .limit
-
-  -- of each location, whether its invariant leaves a valuation out
-  abbrev pub limited : List Bool
-  limited = limitedBelow zs (r .index .locations)
 
   -- the table's nodes and their zones stand in the stores ns and ys
   module _ (list : List ℕ) (t : TableRead) (ns : List ℕ) (ys : List ℤ) (rows : ReadFor (r .index) list t ns ys) where
@@ -156,10 +150,22 @@ module _ (words : List ℕ) (r : ModelRead) (es : List ℕ) (zs : List ℤ) (m :
       shape = shaped M list formed words-hold
 
       abbrev walks : Finding
-      walks = walked list kept limited k t
+      walks = walked list kept (containedBelow k zs (t .count)) k t
 
       pub asked : StoresFit ns ys → WalkAsked list kept k (t .count)
       asked rooms = walk-asked M list kept t k x good formed indexed shape (m .room) rooms
+
+      -- what asking which nodes have zones within their invariants asks
+      pub nodes-asked : StoresFit ns ys → NodesAsked k zs (t .count)
+      nodes-asked rooms =
+          let all = asked rooms in
+          let room = m .room .zones in
+          record {
+            limit = all .count;
+            stores = rooms;
+            invariants = record { room = omega arith };
+            locations = λ n l. all .nodes n l .stores .location;
+          }
 
       says : First (nodesChecks M W 0 (W .nodes)) (λ (_ : Unit {0}). Unit {0}) (findingAnswer walks)
       says = walk-first M list kept t k x good formed indexed shape

@@ -31,8 +31,8 @@ use Rattle.table.specs.Nodes.{entryAt, putEntry}
 use Rattle.table.specs.Index as index
 use Rattle.acceptance.specs.Judging.{Judged}
 use Rattle.judge.specs.Verdicts.{verdictAnswer}
-use Rattle.judge.specs.Reaching.{common, waitedSquare, limitedBelow, landsInside?}
-use Rattle.judge.specs.Landing.{heldFinding, landingsOutcome, successorOutcome}
+use Rattle.judge.specs.Reaching.{common, waitedSquare, containedBelow}
+use Rattle.judge.specs.Landing.{added, failed, landingsOutcome, successorOutcome}
 use Rattle.judge.specs.Findings.{orElse}
 use Rattle.judge.specs.Cutting.{partFinding, cutFinding}
 use Rattle.judge.specs.Walk.{successorsFrom, rowsFrom, rowsFinding, nodeFinding, nodesFrom, walked}
@@ -105,7 +105,7 @@ unfolding
     wholeAnswer faultAnswer answerOf fields.fields? reading.limit? scan.rowsAllowKind? scan.rowsAllowAt? scan.fieldsAt? scan.limitAt? scan.faultAt
     scan.lastFault scan.firstRow scan.endRow scan.rowsAt scan.edgesAt scan.rowSize scan.sizeAt scan.seenWithKind scan.seenWith entryAt putEntry
     index.keptWithKind index.keptWith index.unlessFault index.scanFrom index.scanned index.numbersAnswer index.answerOf common waitedSquare
-    limitedBelow landsInside? heldFinding landingsOutcome successorOutcome orElse successorsFrom rowsFrom rowsFinding negated withWord
+    containedBelow added failed landingsOutcome successorOutcome orElse successorsFrom rowsFrom rowsFinding negated withWord
     holdingSquare restSquare partFinding cutFinding nodeFinding nodesFrom walked startVerdict verdictAnswer behindModel
     behindWords behindNodes judged judgedBehind judgedFrom computed
 answers = (

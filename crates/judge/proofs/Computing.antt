@@ -30,7 +30,7 @@ use Rattle.table.specs.declared.read.TableRead.{TableRead}
 use Rattle.table.proofs.Reading.{read-for}
 use Rattle.acceptance.specs.Judging.{Judged}
 use Rattle.judge.specs.Verdicts.{verdictAnswer}
-use Rattle.judge.specs.Reaching.{limitedBelow}
+use Rattle.judge.specs.Reaching.{containedBelow}
 use Rattle.judge.specs.Walk.{walked}
 use Rattle.judge.specs.Findings.{findingAnswer}
 use Rattle.judge.specs.declared.findings.Finding.{Finding}
@@ -80,7 +80,7 @@ nothing-fits = let e = length-replicate {A = ℕ} 192 0 in let z = length-replic
 
 unfoldable pub judged : ModelRead → ModelKept → TableRead → Kept → List ℕ → Verdict
 judged r m t k list =
-    let walks : Finding = walked list m (limitedBelow (m .zones) (m .index .locations)) k t in
+    let walks : Finding = walked list m (containedBelow k (m .zones) (t .count)) k t in
     behindModel (r .answer) (behindWords (t .answer) (behindNodes walks (startAt r t k)))
 
 -- behind the pass over the table's words, and behind the one over the model's
@@ -112,7 +112,7 @@ model-only n p c e = let z : _≡_ {A = ℕ} 0 1 = cc in omega arith
 module _ (words list : List ℕ) (r : ModelRead) (es : List ℕ) (zs : List ℤ) (t : TableRead) (ns : List ℕ) (ys : List ℤ)
     (listed : IndexFits (r .index) → ReadFor (r .index) list t ns ys) where
   abbrev walks : Finding
-  walks = walked list (keep (r .index) es zs) (limitedBelow zs (r .index .locations)) (keepTable ns ys) t
+  walks = walked list (keep (r .index) es zs) (containedBelow (keepTable ns ys) zs (t .count)) (keepTable ns ys) t
 
   abbrev start : Verdict
   start = startAt r t (keepTable ns ys)

@@ -1,8 +1,8 @@
 -- What an edge with its successor comes to: the walk decides 17 and 18, and what it adds is what the edge has in the sum of 19. Assumes nothing.
 use Prim.Native.Nat.{ℕ, _-_, _*_, _<_}
-use mathlib.Core.Path.{_≡_, refl, ap}
+use mathlib.Core.Path.{_≡_, refl, ap, _∙_}
 use mathlib.Core.Logic.{inl, inr}
-use mathlib.Core.Bool.{Bool, true, false, not, cond, _||_}
+use mathlib.Core.Bool.{Bool, true, false, cond, _&&_, _||_}
 use mathlib.Core.List.{List, [], _∷_}
 use native.Mathlib.Omega.{arith}
 use borrow.Author.Tests.{eqb-true, eqb-false}
@@ -14,15 +14,15 @@ use Rattle.zone.specs.Checks.{check}
 use Rattle.zone.specs.Squares.{universe, resetSquare, empty?, inside?}
 use Rattle.zone.specs.Stores.{zoneAt}
 use Rattle.zone.specs.declared.zones.Zone.{Zone as Square}
-use Rattle.zone.proofs.Bools.{or-false, untrue}
+use Rattle.zone.proofs.Bools.{untrue}
 use Rattle.zone.proofs.Regions.{inBoth}
-use Rattle.zone.proofs.Spans.{Beyond}
+use Rattle.zone.proofs.Spans.{spans, Beyond, inside-yes}
 use Rattle.model.specs.Fields.{maskOf, landsAt, weightOf}
 use Rattle.model.specs.Model.{Edge, Action, Model, edgeOf}
 use Rattle.model.specs.States.{locationAt}
 use Rattle.model.specs.Index.{Kept as ModelKept}
 use Rattle.model.specs.Indexed.{withBounds, Indexed}
-use Rattle.model.proofs.ZoneLaws.{All, empty, more, GoodZone}
+use Rattle.model.proofs.ZoneLaws.{All, empty, more, GoodZone, stands-bounds}
 use Rattle.model.proofs.GoodModel.{GoodModel}
 use Rattle.model.proofs.WellFormed.{FormedEdge}
 use Rattle.model.proofs.IndexLaws.{location-at}
@@ -33,14 +33,14 @@ use Rattle.table.specs.declared.read.TableRead.{TableRead}
 use Rattle.table.proofs.Shape.{Shaped}
 use Rattle.acceptance.specs.Acceptance.{Reach, HasLocation, landings, landingsInside, HoldsLandings, CanLandOutside, Worth}
 use Rattle.acceptance.proofs.SumLaws.{inside-cannot, Known}
-use Rattle.judge.specs.Reaching.{common, limitedBelow, landsInside?}
-use Rattle.judge.specs.Landing.{heldFinding, landingsOutcome, successorOutcome}
+use Rattle.judge.specs.Reaching.{common, containedBelow}
+use Rattle.judge.specs.Landing.{added, failed, landingsOutcome, successorOutcome}
 use Rattle.judge.specs.Findings.{findingAnswer}
 use Rattle.judge.specs.declared.findings.Finding.the-variants as finding
 use Rattle.judge.specs.declared.landing.Outcome.{Outcome}
-use Rattle.judge.proofs.FindingLaws.{Finds, none-found, decides, located}
+use Rattle.judge.proofs.FindingLaws.{Finds, located, outside-zone}
 use Rattle.judge.proofs.RowLaws.{node-at, shaped-at}
-use Rattle.judge.proofs.LandingLaws.{limited-at, unlimited}
+use Rattle.judge.proofs.LandingLaws.{contained-at}
 use Rattle.judge.proofs.PartLaws.{Decides}
 
 -- ---- what the square table of a row's reach decides
@@ -57,9 +57,9 @@ pub record Reached (M : Model) (N : Node) (A : Action) (z : Square) : Type 0 whe
 
 module _ (M : Model) (words : List ℕ) (m : ModelKept) (t : TableRead) (k : Kept) (x : Indexed M m) (good : GoodModel M) (W : Table)
     (i : TableIndexed W t k) (sh : Shaped M words W) where
-  -- of each location, whether its invariant leaves a valuation out
-  abbrev pub limited : List Bool
-  limited = limitedBelow (m .zones) (m .index .locations)
+  -- of each node, whether its zone lies within the invariant of its location
+  abbrev pub contained : List Bool
+  contained = containedBelow k (m .zones) (t .count)
 
   -- ---- the successors of a row
   module _ (N : Node) (A : Action) (reach : Square) (z : Reached M N A reach) where
@@ -85,45 +85,31 @@ module _ (M : Model) (words : List ℕ) (m : ModelKept) (t : TableRead) (k : Kep
       abbrev landed : Square
       landed = resetSquare (E .mask) reach
 
-      module _ (filled : empty? reach ≡ false) where
-        lands-pass : landsInside? (m .zones) limited (E .to) landed ≡ true → Inside (landings M N A E) (within invariant)
-        unfolding landsInside?
-        lands-pass h =
-            by (inside? universe (zoneAt (m .zones) (E .to))) refl (rw (limited-at (m .zones) (m .index .locations) (E .to) there (x .limit)) at h)
-          where
-            there : E .to < m .index .locations
-            there = omega (arith, f .to, x .locations)
-
-            by : (c : Bool) → inside? universe (zoneAt (m .zones) (E .to)) ≡ c → (not (not c) || inside? landed (zoneAt (m .zones) (E .to))) ≡ true →
-                Inside (landings M N A E) (within invariant)
-            by true e h = record { at = λ k k₁ v p. unlimited invariant good-invariant (rw table-is at e) k k₁ v }
-            by false e h = z .onward-pass filled (E .mask) invariant good-invariant (rw table-is at h)
-
-        lands-fail : landsInside? (m .zones) limited (E .to) landed ≡ false → CanLandOutside M N A E
-        unfolding landsInside? within
-        lands-fail h =
-            let p : Beyond (landings M N A E) (within invariant) =
-            z .onward-fail filled (E .mask) invariant good-invariant (rw table-is at (or-false (not (getD limited (E .to) false)) _ h)) in
-            record {
-              scale = p .scale;
-              positive = p .positive;
-              valuation = p .valuation;
-              lands = p .holds;
-              outside = untrue (in? (p .scale) (p .valuation) invariant) (p .fails);
-            }
-
       -- from an empty reach it cannot land outside
       nowhere : empty? reach ≡ true → CanLandOutside M N A E → ⊥
       nowhere e can = z .blocked-pass e .at (can .scale) (can .positive) (can .lands .before) (can .lands .was)
 
+      -- where not every landing is inside it can
+      somewhere : empty? reach ≡ false → inside? landed invariantTable ≡ false → CanLandOutside M N A E
+      unfolding within
+      somewhere e h =
+          let p : Beyond (landings M N A E) (within invariant) = z .onward-fail e (E .mask) invariant good-invariant h in
+          record {
+            scale = p .scale;
+            positive = p .positive;
+            valuation = p .valuation;
+            lands = p .holds;
+            outside = untrue (in? (p .scale) (p .valuation) invariant) (p .fails);
+          }
+
       -- whether it can is known
       known : Known M W N A E
-      known = by (empty? reach) refl (landsInside? (m .zones) limited (E .to) landed) refl
+      known = by (empty? reach) refl (inside? landed invariantTable) refl
         where
-          by : (d : Bool) → empty? reach ≡ d → (b : Bool) → landsInside? (m .zones) limited (E .to) landed ≡ b → Known M W N A E
+          by : (d : Bool) → empty? reach ≡ d → (b : Bool) → inside? landed invariantTable ≡ b → Known M W N A E
           by true e b o = inr (nowhere e)
-          by false e true o = inr (inside-cannot M W N A E (lands-pass e o))
-          by false e false o = inl (lands-fail e o)
+          by false e true o = inr (inside-cannot M W N A E (z .onward-pass e (E .mask) invariant good-invariant o))
+          by false e false o = inl (somewhere e o)
 
       module _ (s p : ℕ) (l : s < length (W .nodes)) where
         abbrev S : Successor
@@ -132,73 +118,117 @@ module _ (M : Model) (words : List ℕ) (m : ModelKept) (t : TableRead) (k : Kep
         abbrev zone : Zone
         zone = nodeAt W s .zone
 
-        -- nothing lands
-        comes-empty : empty? reach ≡ true → nodeAt W s .location ≡ E .to →
-            Comes E S (record { finding = finding.None; share = E .weight * nodeAt W s .value })
-        unfolding landingsInside findingAnswer
-        comes-empty e q = record {
-          finds = record {
-            says = inl (q, inl (record { at = λ k k₁ v h. absurd (z .blocked-pass e .at k k₁ (h .0 .before) (h .0 .was)) }, tt));
-          };
-          adds = λ _. (nodeAt W s .value, inr (nowhere e, refl), refl);
-        }
+        good-zone : GoodZone zone
+        good-zone = shaped-at sh s l .zone
 
-        -- every landing is inside
-        comes-inside : empty? reach ≡ false → nodeAt W s .location ≡ E .to → Inside (landings M N A E) (within invariant) →
-            Comes E S (record { finding = heldFinding landed false (withBounds zone universe) p; share = E .weight * nodeAt W s .value })
-        unfolding landingsInside heldFinding findingAnswer
-        comes-inside e q all = record {
-          finds = record {
-            says = inl (q, decides {c = check 18 p (HoldsLandings M W N A E S)} (inside? landed (withBounds zone universe)) (finding.NotInside p) _
-                (λ h. record { at = λ k k₁ v r. z .onward-pass e (E .mask) zone (shaped-at sh s l .zone) h .at k k₁ v (r .0) })
-                (λ h m. let b = z .onward-fail e (E .mask) zone (shaped-at sh s l .zone) h in
-                b .fails (m .at (b .scale) (b .positive) (b .valuation) (b .holds, all .at (b .scale) (b .positive) (b .valuation) (b .holds))))
-                refl none-found .says);
-          };
-          adds = λ _. (nodeAt W s .value, inr (inside-cannot M W N A E all, refl), refl);
-        }
+        abbrev zoneTable : Square
+        zoneTable = withBounds zone universe
 
-        -- some landing is outside
-        comes-outside : empty? reach ≡ false → nodeAt W s .location ≡ E .to → CanLandOutside M N A E →
-            let part : Square = common landed invariantTable in
-            Comes E S (record { finding = heldFinding part (empty? part) (withBounds zone universe) p; share = E .weight * t .whole })
-        unfolding landingsInside heldFinding findingAnswer
-        comes-outside e q can = record {
-          finds = record {
-            says = inl (q, decides _ (finding.NotInside p) _
-                (z .part e (E .mask) invariant good-invariant .pass zone (shaped-at sh s l .zone))
-                (z .part e (E .mask) invariant good-invariant .fail zone (shaped-at sh s l .zone)) refl none-found .says);
-          };
-          adds = λ _. (t .whole, inl (can, i .whole), refl);
-        }
+        wrong-location : (nodeAt W s .location ≡ E .to → ⊥) → Comes E S (record { finding = finding.WrongLocation p; share = 0 })
+        unfolding findingAnswer
+        wrong-location un = record { finds = record { says = inr (un, refl) }; adds = λ f. absurd (located p f) }
 
-        pub comes : (w : ℕ) → edgeOf w ≡ E → Comes E S (successorOutcome reach (empty? reach) w (m .zones) limited (t .whole) k s p)
-        unfolding successorOutcome landingsOutcome findingAnswer
+        module _ (at : nodeAt W s .location ≡ E .to) where
+          -- both checks hold
+          holds : (y : ℕ) → HoldsLandings M W N A E S → Worth M W N A E S y → Comes E S (record { finding = finding.None; share = E .weight * y })
+          unfolding findingAnswer
+          holds y h w = record { finds = record { says = inl (at, inl (h, tt)) }; adds = λ _. (y, w, refl) }
+
+          -- 18 does not
+          holds-not : (HoldsLandings M W N A E S → ⊥) → Comes E S (record { finding = finding.NotInside p; share = 0 })
+          unfolding findingAnswer
+          holds-not un = record { finds = record { says = inl (at, inr (un, refl)) }; adds = λ f. absurd (outside-zone p f) }
+
+          nothing-lands : empty? reach ≡ true → Comes E S (record { finding = finding.None; share = E .weight * nodeAt W s .value })
+          unfolding landingsInside
+          nothing-lands e =
+              holds (nodeAt W s .value) (record { at = λ k k₁ v h. absurd (z .blocked-pass e .at k k₁ (h .0 .before) (h .0 .was)) })
+              (inr (nowhere e, refl))
+
+          module _ (filled : empty? reach ≡ false) where
+            -- every landing is inside
+            module _ (all : Inside (landings M N A E) (within invariant)) where
+              inside-held : inside? landed zoneTable ≡ true → Comes E S (record { finding = finding.None; share = E .weight * nodeAt W s .value })
+              unfolding landingsInside
+              inside-held h =
+                  holds (nodeAt W s .value)
+                  (record { at = λ k k₁ v r. z .onward-pass filled (E .mask) zone good-zone h .at k k₁ v (r .0) })
+                  (inr (inside-cannot M W N A E all, refl))
+
+              inside-not-held : inside? landed zoneTable ≡ false → Comes E S (record { finding = finding.NotInside p; share = 0 })
+              unfolding landingsInside
+              inside-not-held h = holds-not (λ m.
+                  let b = z .onward-fail filled (E .mask) zone good-zone h in
+                  b .fails (m .at (b .scale) (b .positive) (b .valuation) (b .holds, all .at (b .scale) (b .positive) (b .valuation) (b .holds))))
+
+            -- the successor's zone lies within the invariant, and holds the landings
+            zone-within : inside? landed zoneTable ≡ true → inside? zoneTable invariantTable ≡ true → Inside (landings M N A E) (within invariant)
+            zone-within h i = record {
+              at = λ k k₁ v r.
+                  inside-yes (spans (stands-bounds zone good-zone)) (stands-bounds invariant good-invariant) i .at k k₁ v
+                  (z .onward-pass filled (E .mask) zone good-zone h .at k k₁ v r);
+            }
+
+            -- some landing is outside
+            module _ (can : CanLandOutside M N A E) where
+              abbrev part : Square
+              part = common landed invariantTable
+
+              part-held : (empty? part || inside? part zoneTable) ≡ true → Comes E S (record { finding = finding.None; share = E .weight * t .whole })
+              unfolding landingsInside
+              part-held h = holds (t .whole) (z .part filled (E .mask) invariant good-invariant .pass zone good-zone h) (inl (can, i .whole))
+
+              part-not-held : (empty? part || inside? part zoneTable) ≡ false → Comes E S (record { finding = finding.NotInside p; share = 0 })
+              unfolding landingsInside
+              part-not-held h = holds-not (z .part filled (E .mask) invariant good-invariant .fail zone good-zone h)
+
+        -- the flag that the code keeps of the successor
+        contained-is : nodeAt W s .location ≡ E .to → getD contained s false ≡ inside? zoneTable invariantTable
+        contained-is at =
+            let there : s < t .count = omega (arith, l, i .count) in
+            contained-at k (m .zones) (t .count) s there (i .limit) ∙ rw (node-at i s l .zone, node-at i s l .location, at, table-is) refl
+
+        by-tests : (at : nodeAt W s .location ≡ E .to) → empty? reach ≡ false → (h c j q : Bool) → inside? landed zoneTable ≡ h →
+            inside? zoneTable invariantTable ≡ c → inside? landed invariantTable ≡ j →
+            (empty? (common landed invariantTable) || inside? (common landed invariantTable) zoneTable) ≡ q →
+            Comes E S
+            (cond (h && c) (record { finding = finding.None; share = E .weight * nodeAt W s .value })
+            (cond j
+            (cond h (record { finding = finding.None; share = E .weight * nodeAt W s .value }) (record { finding = finding.NotInside p; share = 0 }))
+            (cond q (record { finding = finding.None; share = E .weight * t .whole }) (record { finding = finding.NotInside p; share = 0 }))))
+        by-tests at e true true j q eh ec ej eq = inside-held at e (zone-within at e eh ec) eh
+        by-tests at e true false true q eh ec ej eq = inside-held at e (z .onward-pass e (E .mask) invariant good-invariant ej) eh
+        by-tests at e false c true q eh ec ej eq = inside-not-held at e (z .onward-pass e (E .mask) invariant good-invariant ej) eh
+        by-tests at e true false false true eh ec ej eq = part-held at e (somewhere e ej) eq
+        by-tests at e true false false false eh ec ej eq = part-not-held at e (somewhere e ej) eq
+        by-tests at e false c false true eh ec ej eq = part-held at e (somewhere e ej) eq
+        by-tests at e false c false false eh ec ej eq = part-not-held at e (somewhere e ej) eq
+
+        pub comes : (w : ℕ) → edgeOf w ≡ E → Comes E S (successorOutcome reach (empty? reach) w (m .zones) contained (t .whole) k s p)
+        unfolding successorOutcome landingsOutcome added failed
         comes w e =
             let to : landsAt w ≡ E .to = ap (λ (E : Edge). E .to) e in
             let mask : maskOf w ≡ E .mask = ap (λ (E : Edge). E .mask) e in
             let weight : weightOf w ≡ E .weight = ap (λ (E : Edge). E .weight) e in
-            rw (to, mask, weight, node-at i s l .location, node-at i s l .value, node-at i s l .zone)
-            (by (eqb (nodeAt W s .location) (E .to)) refl (empty? reach) refl (landsInside? (m .zones) limited (E .to) landed) refl)
+            rw (to, mask, weight, node-at i s l .location, node-at i s l .value, node-at i s l .zone, table-is)
+            (by (eqb (nodeAt W s .location) (E .to)) refl (empty? reach) refl)
           where
-            part : Square
-            part = common landed (zoneAt (m .zones) (E .to))
-
-            by : (c : Bool) → eqb (nodeAt W s .location) (E .to) ≡ c → (d : Bool) → empty? reach ≡ d → (b : Bool) →
-                landsInside? (m .zones) limited (E .to) landed ≡ b →
+            by : (c : Bool) → eqb (nodeAt W s .location) (E .to) ≡ c → (d : Bool) → empty? reach ≡ d →
                 Comes E S
                 (cond c
                 (cond d (record { finding = finding.None; share = E .weight * nodeAt W s .value })
-                (cond b (record { finding = heldFinding landed false (withBounds zone universe) p; share = E .weight * nodeAt W s .value })
-                (record { finding = heldFinding part (empty? part) (withBounds zone universe) p; share = E .weight * t .whole })))
+                (cond (inside? landed zoneTable && getD contained s false) (record { finding = finding.None; share = E .weight * nodeAt W s .value })
+                (cond (inside? landed invariantTable)
+                (cond (inside? landed zoneTable) (record { finding = finding.None; share = E .weight * nodeAt W s .value })
+                (record { finding = finding.NotInside p; share = 0 }))
+                (cond (empty? (common landed invariantTable) || inside? (common landed invariantTable) zoneTable)
+                (record { finding = finding.None; share = E .weight * t .whole }) (record { finding = finding.NotInside p; share = 0 })))))
                 (record { finding = finding.WrongLocation p; share = 0 }))
-            by true q true e b o = comes-empty e (eqb-true _ _ q)
-            by true q false e true o = comes-inside e (eqb-true _ _ q) (lands-pass e o)
-            by true q false e false o = rw table-is (comes-outside e (eqb-true _ _ q) (lands-fail e o))
-            by false q d e b o = record {
-              finds = record { says = inr (eqb-false _ _ q, refl) };
-              adds = λ f. absurd (located p f);
-            }
+            by true q true e = nothing-lands (eqb-true _ _ q) e
+            by true q false e =
+                let at : nodeAt W s .location ≡ E .to = eqb-true _ _ q in
+                rw (contained-is at) (by-tests at e _ _ _ _ refl refl refl refl)
+            by false q d e = wrong-location (eqb-false _ _ q)
 
     pub all-known : (Es : List Edge) → All (FormedEdge M) Es → All (Known M W N A) Es
     all-known [] empty = empty

@@ -47,9 +47,12 @@ finds-first cs ds (finding.PartNotAbove p) g h i = record { says = first-before 
 finds-first cs ds (finding.PartMismatch p) g h i = record { says = first-before cs ds _ _ 52 p (h .says) }
 finds-first cs ds (finding.PartNotInside p) g h i = record { says = first-before cs ds _ _ 53 p (h .says) }
 
--- a wrong location is found
+-- what is found is not nothing
 pub located : (p : ℕ) → finding.WrongLocation p ≡ finding.None → ⊥
 located p e = let z : _≡_ {A = ℕ} 0 1 = cc in omega arith
+
+pub outside-zone : (p : ℕ) → finding.NotInside p ≡ finding.None → ⊥
+outside-zone p e = let z : _≡_ {A = ℕ} 0 1 = cc in omega arith
 
 -- no check finds nothing
 pub none-found : Finds [] finding.None

@@ -63,14 +63,14 @@ module _ (words : List ℕ) (m : ModelKept) (k : Kept) where
     pub rows-there : (kind (getD words (N .place + 1) 0) ≡ tableNumber cut → ⊥) → RowsAsked words m k n N
     rows-there q = let c = ne-eqb _ _ q in b .rows (rw (add-one (N .place)) at c)
 
-module _ (words : List ℕ) (whole : ℕ) (m : ModelKept) (limited : List Bool) (k : Kept) where
+module _ (words : List ℕ) (whole : ℕ) (m : ModelKept) (contained : List Bool) (k : Kept) where
   -- ---- nodes
   -- before the node n; the whole walk comes to `goal`
   pub record AtNode (goal : Finding) (count n : ℕ) : Type 0 where
     pub within : n ≤ count
-    pub onward : goal ≡ nodesFrom words whole m limited k (count - n) n
+    pub onward : goal ≡ nodesFrom words whole m contained k (count - n) n
 
-  pub nodes-begin : (t : TableRead) → t .whole ≡ whole → AtNode (walked words m limited k t) (t .count) 0
+  pub nodes-begin : (t : TableRead) → t .whole ≡ whole → AtNode (walked words m contained k t) (t .count) 0
   unfolding walked
   nodes-begin t v =
       let e : t .count - 0 ≡ t .count = omega arith in
@@ -81,8 +81,8 @@ module _ (words : List ℕ) (whole : ℕ) (m : ModelKept) (limited : List Bool) 
     unfolding nodesFrom
     nodes-end h = let e : count - n ≡ 0 = omega arith in sym (i .onward ∙ rw e)
 
-    module _ (h : n < count) {f : Finding} (e : f ≡ nodeFinding words whole m limited k n) where
-      one-node : goal ≡ orElse f (nodesFrom words whole m limited k (count - suc n) (suc n))
+    module _ (h : n < count) {f : Finding} (e : f ≡ nodeFinding words whole m contained k n) where
+      one-node : goal ≡ orElse f (nodesFrom words whole m contained k (count - suc n) (suc n))
       unfolding nodesFrom
       one-node = i .onward ∙ rw (one-left count n h, e)
 
@@ -100,7 +100,7 @@ module _ (words : List ℕ) (whole : ℕ) (m : ModelKept) (limited : List Bool) 
     pub tightens : Tightens 2 waited
     pub limit : last ≤ 32
     pub fits : RowsInRange words m k (last - a) a at
-    pub onward : goal ≡ rowsFrom words whole m limited k waited value (last - a) a at
+    pub onward : goal ≡ rowsFrom words whole m contained k waited value (last - a) a at
 
   -- the reach of the row of the action a, and whether it is empty
   pub record ReachAt (waited : Square) (a : ℕ) (reach : Square) (empty : Bool) : Type 0 where
@@ -120,27 +120,27 @@ module _ (words : List ℕ) (whole : ℕ) (m : ModelKept) (limited : List Bool) 
     pub small : sum ≤ e * 2 ^ 48
     pub fits : RowsInRange words m k (last - suc a) (suc a) (first + edgesAt (m .index) a)
     pub onward : goal ≡
-        orElse (successorsFrom words whole m limited k reach empty limit first (end - e) e at sum)
-        (rowsFrom words whole m limited k waited value (last - suc a) (suc a) (first + edgesAt (m .index) a))
+        orElse (successorsFrom words whole m contained k reach empty limit first (end - e) e at sum)
+        (rowsFrom words whole m contained k waited value (last - suc a) (suc a) (first + edgesAt (m .index) a))
 
   module _ (n : ℕ) {N : NodeEntry} (e : N ≡ entryAt (k .nodes) n) where
     module _ (target : getD (m .index .targets) (N .location) false ≡ true) where
-      pub target-good : N .value ≡ whole → finding.None ≡ nodeFinding words whole m limited k n
+      pub target-good : N .value ≡ whole → finding.None ≡ nodeFinding words whole m contained k n
       unfolding nodeFinding
       target-good q = rw (← e, target, eq-eqb _ _ q)
 
-      pub target-bad : (N .value ≡ whole → ⊥) → finding.BadTargetValue (N .place) ≡ nodeFinding words whole m limited k n
+      pub target-bad : (N .value ≡ whole → ⊥) → finding.BadTargetValue (N .place) ≡ nodeFinding words whole m contained k n
       unfolding nodeFinding
       target-bad q = rw (← e, target, ne-eqb _ _ q)
 
     -- a node whose location is no target, cut or not
     module _ (un : getD (m .index .targets) (N .location) false ≡ false) where
-      pub node-cut : kind (getD words (N .place + 1) 0) ≡ tableNumber cut → cutFinding words k n N (N .place + 1) ≡ nodeFinding words whole m limited k n
+      pub node-cut : kind (getD words (N .place + 1) 0) ≡ tableNumber cut → cutFinding words k n N (N .place + 1) ≡ nodeFinding words whole m contained k n
       unfolding nodeFinding
       node-cut q = let c = eq-eqb _ _ q in rw (← e, un, ← add-one (N .place), c)
 
       pub node-uncut : (kind (getD words (N .place + 1) 0) ≡ tableNumber cut → ⊥) →
-          rowsFinding words whole m limited k n N ≡ nodeFinding words whole m limited k n
+          rowsFinding words whole m contained k n N ≡ nodeFinding words whole m contained k n
       unfolding nodeFinding
       node-uncut q = let c = ne-eqb _ _ q in rw (← e, un, ← add-one (N .place), c)
 
@@ -148,14 +148,14 @@ module _ (words : List ℕ) (whole : ℕ) (m : ModelKept) (limited : List Bool) 
   module _
       (n : ℕ) (N : NodeEntry) {first last : ℕ} (ef : first ≡ getD (m .index .actions) (N .location) 0)
       (el : last ≡ getD (m .index .actions) (N .location + 1) 0) where
-    pub no-rows : first ≡ last → finding.None ≡ rowsFinding words whole m limited k n N
+    pub no-rows : first ≡ last → finding.None ≡ rowsFinding words whole m contained k n N
     unfolding rowsFinding rowsFrom
     no-rows q =
         let none : getD (m .index .actions) (N .location + 1) 0 - getD (m .index .actions) (N .location) 0 ≡ 0 = omega arith in
         rw none
 
     pub node-rows : {y i waited : Square} → RowsAsked words m k n N → y ≡ zoneAt (k .zones) n → i ≡ zoneAt (m .zones) (N .location) →
-        waited ≡ waitedSquare y i → AtRow (rowsFinding words whole m limited k n N) waited (N .value) last finding.None (N .place + 1) first
+        waited ≡ waitedSquare y i → AtRow (rowsFinding words whole m contained k n N) waited (N .value) last finding.None (N .place + 1) first
     unfolding rowsFinding
     node-rows asked ey ei ew = rw (add-one (N .place), ew, ey, ei, ef, el) (record {
       none = refl;
@@ -171,8 +171,8 @@ module _ (words : List ℕ) (whole : ℕ) (m : ModelKept) (limited : List Bool) 
     rows-end h = let e : last - a ≡ 0 = omega arith in i .none ∙ sym (i .onward ∙ rw e)
 
     module _ (h : a < last) where
-      one-row : goal ≡ rowsFrom words whole m limited k waited value (suc (last - suc a)) a at
-      one-row = i .onward ∙ ap (λ (c : ℕ). rowsFrom words whole m limited k waited value c a at) (one-left last a h)
+      one-row : goal ≡ rowsFrom words whole m contained k waited value (suc (last - suc a)) a at
+      one-row = i .onward ∙ ap (λ (c : ℕ). rowsFrom words whole m contained k waited value c a at) (one-left last a h)
 
       one-fits : RowsInRange words m k (suc (last - suc a)) a at
       one-fits = rw (← one-left last a h) (i .fits)
@@ -227,26 +227,27 @@ module _ (words : List ℕ) (whole : ℕ) (m : ModelKept) (limited : List Bool) 
       {goal : Finding} {waited : Square} {value last a : ℕ} {reach : Square} {empty : Bool} {limit first end : ℕ} {f : Finding} {at sum e : ℕ}
       (i : AtSuccessor goal waited value last a reach empty limit first end f at sum e) where
     abbrev behindRow : Finding
-    behindRow = rowsFrom words whole m limited k waited value (last - suc a) (suc a) (first + edgesAt (m .index) a)
+    behindRow = rowsFrom words whole m contained k waited value (last - suc a) (suc a) (first + edgesAt (m .index) a)
 
     module _ (h : e < end) where
       pub successor-place : at < length words
       successor-place = let p = i .place in let w = i .within in omega arith
 
-      pub successor-asked : {w s : ℕ} → w ≡ getD (m .edges) e 0 → HasSlot (landsAt w) (m .zones) → HasNode s (k .nodes) → HasSlot s (k .zones) →
+      pub successor-asked : {w s : ℕ} → w ≡ getD (m .edges) e 0 → HasSlot (landsAt w) (m .zones) → s < 64 → HasNode s (k .nodes) → HasSlot s (k .zones) →
           SuccessorAsked reach w (m .zones) k s
-      successor-asked ew slot node zone = record {
+      successor-asked ew slot few node zone = record {
         reached = i .reached;
         invariant = rw ew (i .lands e (omega arith) h);
         location = slot;
+        number = few;
         node = node;
         zone = zone;
       }
 
       module _ {w s : ℕ} {o : Outcome} (ew : w ≡ getD (m .edges) e 0) (es : s ≡ numberOf (getD words at 0))
-          (eo : o ≡ successorOutcome reach empty w (m .zones) limited whole k s at) where
+          (eo : o ≡ successorOutcome reach empty w (m .zones) contained whole k s at) where
         one-successor :
-            goal ≡ orElse (orElse (o .finding) (successorsFrom words whole m limited k reach empty limit first (end - suc e) (suc e) (suc at) (sum + o .share)))
+            goal ≡ orElse (orElse (o .finding) (successorsFrom words whole m contained k reach empty limit first (end - suc e) (suc e) (suc at) (sum + o .share)))
             behindRow
         unfolding successorsFrom
         one-successor = i .onward ∙ rw (one-left end e h, eo, es, ew)
@@ -275,10 +276,10 @@ module _ (words : List ℕ) (whole : ℕ) (m : ModelKept) (limited : List Bool) 
             })
 
     module _ (h : end ≤ e) where
-      none-left : goal ≡ orElse (successorsFrom words whole m limited k reach empty limit first 0 e at sum) behindRow
+      none-left : goal ≡ orElse (successorsFrom words whole m contained k reach empty limit first 0 e at sum) behindRow
       none-left =
           i .onward
-          ∙ ap (λ (c : ℕ). orElse (successorsFrom words whole m limited k reach empty limit first c e at sum) behindRow)
+          ∙ ap (λ (c : ℕ). orElse (successorsFrom words whole m contained k reach empty limit first c e at sum) behindRow)
           (let q : end - e ≡ 0 = omega arith in q)
 
       pub sum-large : limit < sum → finding.SumTooLarge first ≡ goal

@@ -36,7 +36,7 @@ use Rattle.table.proofs.Shape.{RowStands, RowsStand, CutStands, BodyStands, Nod
 use Rattle.acceptance.specs.Acceptance.{SumOf, SumFits, Matches}
 use Rattle.acceptance.specs.Judging.{successorChecks, rowChecks, rowsChecks, partChecks, cutChecks, bodyChecks, nodeChecks, nodesChecks}
 use Rattle.acceptance.proofs.SumLaws.{sum-one, sum-there}
-use Rattle.judge.specs.Reaching.{common, waitedSquare, limitedBelow}
+use Rattle.judge.specs.Reaching.{common, waitedSquare, containedBelow}
 use Rattle.judge.specs.Landing.{successorOutcome}
 use Rattle.judge.specs.Findings.{orElse, findingAnswer}
 use Rattle.judge.specs.Cutting.{partFinding, cutFinding}
@@ -82,9 +82,9 @@ rows-split A As at ws = by (isTable blocked (getD ws 0 0))
 
 module _ (M : Model) (words : List ℕ) (m : ModelKept) (t : TableRead) (k : Kept) (x : Indexed M m) (good : GoodModel M) (formed : WellFormed M)
     (W : Table) (i : TableIndexed W t k) (sh : Shaped M words W) where
-  -- of each location, whether its invariant leaves a valuation out
-  abbrev limited : List Bool
-  limited = limitedBelow (m .zones) (m .index .locations)
+  -- of each node, whether its zone lies within the invariant of its location
+  abbrev contained : List Bool
+  contained = containedBelow k (m .zones) (t .count)
 
   -- ---- the successors of a row
   module _ (N : Node) (A : Action) (reach : Square) (z : Reached M N A reach) where
@@ -94,7 +94,7 @@ module _ (M : Model) (words : List ℕ) (m : ModelKept) (t : TableRead) (k : Kep
         drop at words ≡ ws → ((j : ℕ) → j < length Es → numberOf (getD ws j 0) < length (W .nodes)) →
         ((r : ℕ) → SumOf M W N A Es (successorsOf (length Es) at ws) r → (sum + r ≤ limit) ↔ Q) →
         Finds (successorChecks M W N A Es (successorsOf (length Es) at ws) ++ (check 19 first Q ∷ []))
-        (successorsFrom words (t .whole) m limited k reach (empty? reach) limit first (length Es) e at sum)
+        (successorsFrom words (t .whole) m contained k reach (empty? reach) limit first (length Es) e at sum)
     unfolding Each successorChecks successorsOf successorsFrom findingAnswer
     successors-found limit first Q [] e at sum ws ys empty d l q =
         let all : sum + 0 ≡ sum = omega arith in
@@ -105,7 +105,7 @@ module _ (M : Model) (words : List ℕ) (m : ModelKept) (t : TableRead) (k : Kep
         let w : ℕ = getD (m .edges) e 0 in
         let s : ℕ = numberOf (getD ws 0 0) in
         let c = comes M words m t k x good W i sh N A reach z E f s at (l 0 (omega arith)) w (ys .0 .reads) in
-        let share : ℕ = successorOutcome reach (empty? reach) w (m .zones) limited (t .whole) k s at .share in
+        let share : ℕ = successorOutcome reach (empty? reach) w (m .zones) contained (t .whole) k s at .share in
         rw (front at words ws d) (finds-first (_ ∷ _ ∷ []) _ _ _ (c .finds) (λ none.
         let a = c .adds none in
         successors-found limit first Q Es (suc e) (suc at) (sum + share) (drop 1 ws) (ys .1) fs (next at words ws d)
@@ -138,7 +138,7 @@ module _ (M : Model) (words : List ℕ) (m : ModelKept) (t : TableRead) (k : Kep
     -- n successors of the action a from a place on, where D is the denominator
     abbrev successorsFinding : ℕ → ℕ → ℕ → ℕ → Finding
     successorsFinding D n a at =
-        successorsFrom words (t .whole) m limited k (rowReach a) (empty? (rowReach a)) (D * N .value) at n (getD (m .index .edges) a 0) at 0
+        successorsFrom words (t .whole) m contained k (rowReach a) (empty? (rowReach a)) (D * N .value) at n (getD (m .index .edges) a 0) at 0
 
     -- the row of the action a at a place
     abbrev rowFinding : Bool → ℕ → ℕ → Finding
@@ -150,13 +150,13 @@ module _ (M : Model) (words : List ℕ) (m : ModelKept) (t : TableRead) (k : Kep
     rows-walked :
         (c a at w n : ℕ) → getD words at 0 ≡ w → edgesAt (m .index) a ≡ n →
         let b : Bool = isTable blocked w in
-        rowsFrom words (t .whole) m limited k waited (N .value) (suc c) a at ≡
-        orElse (rowFinding b a at) (rowsFrom words (t .whole) m limited k waited (N .value) c (suc a) (at + rowSize b n))
+        rowsFrom words (t .whole) m contained k waited (N .value) (suc c) a at ≡
+        orElse (rowFinding b a at) (rowsFrom words (t .whole) m contained k waited (N .value) c (suc a) (at + rowSize b n))
     unfolding rowsFrom rowSize orElse
     rows-walked c a at w n e j = rw (← e, ← j) (by (isTable blocked (getD words at 0)) (empty? (rowReach a)))
       where
         rest : ℕ → Finding
-        rest at = rowsFrom words (t .whole) m limited k waited (N .value) c (suc a) at
+        rest at = rowsFrom words (t .whole) m contained k waited (N .value) c (suc a) at
 
         by : (b none : Bool) →
             cond b (cond none (rest (suc at)) (finding.NotBlocked at)) (orElse (rowFinding false a at) (rest (at + edgesAt (m .index) a))) ≡
@@ -185,7 +185,7 @@ module _ (M : Model) (words : List ℕ) (m : ModelKept) (t : TableRead) (k : Kep
 
     rows-found :
         (As : List Action) (a at : ℕ) (ws : List ℕ) → Each (ActionIs M m) a As → drop at words ≡ ws → RowsStand (length (W .nodes)) As ws →
-        Finds (rowsChecks M W N As (rowsOf As at ws)) (rowsFrom words (t .whole) m limited k waited (N .value) (length As) a at)
+        Finds (rowsChecks M W N As (rowsOf As at ws)) (rowsFrom words (t .whole) m contained k waited (N .value) (length As) a at)
     unfolding Each rowsChecks rowsOf rowsFrom RowsStand findingAnswer
     rows-found [] a at ws y d s = record { says = tt }
     rows-found (A ∷ As) a at ws y d s =
@@ -237,7 +237,7 @@ module _ (M : Model) (words : List ℕ) (m : ModelKept) (t : TableRead) (k : Kep
 
   -- ---- the nodes
 
-  node-found : (n : ℕ) (N : Node) → NodeIs k n N → NodeShaped M W words N → Finds (nodeChecks M W n N) (nodeFinding words (t .whole) m limited k n)
+  node-found : (n : ℕ) (N : Node) → NodeIs k n N → NodeShaped M W words N → Finds (nodeChecks M W n N) (nodeFinding words (t .whole) m contained k n)
   unfolding nodeChecks bodyChecks nodeFinding rowsFinding findingAnswer rowActions bodyOf BodyStands
   node-found n N y g =
       rw (
@@ -265,7 +265,7 @@ module _ (M : Model) (words : List ℕ) (m : ModelKept) (t : TableRead) (k : Kep
           (bodyChecks M W n N (L .actions)
           (cond c (cutBody (cutOf (suc (N .place)) ws)) (rowsBody (rowsOf (rowActions L) (suc (N .place)) ws))))
           (cond c (cutFinding words k n (entryFor N) (suc (N .place)))
-          (rowsFrom words (t .whole) m limited k (waited N g) (N .value) (length (L .actions)) (getD (m .index .actions) (N .location) 0) (suc (N .place))))
+          (rowsFrom words (t .whole) m contained k (waited N g) (N .value) (length (L .actions)) (getD (m .index .actions) (N .location) 0) (suc (N .place))))
       body true e s = cut-found n N y g (suc (N .place)) ws refl s
       body false e s =
           let all : rowActions L ≡ L .actions = rw e in
@@ -277,7 +277,7 @@ module _ (M : Model) (words : List ℕ) (m : ModelKept) (t : TableRead) (k : Kep
           Finds (cond b (check 15 (N .place) (N .value ≡ W .whole) ∷ []) (bodyChecks M W n N (L .actions) (N .body)))
           (cond b (cond (eqb (N .value) (t .whole)) finding.None (finding.BadTargetValue (N .place)))
           (cond (isTable cut (getD ws 0 0)) (cutFinding words k n (entryFor N) (suc (N .place)))
-          (rowsFrom words (t .whole) m limited k (waited N g) (N .value) (length (L .actions)) (getD (m .index .actions) (N .location) 0) (suc (N .place)))))
+          (rowsFrom words (t .whole) m contained k (waited N g) (N .value) (length (L .actions)) (getD (m .index .actions) (N .location) 0) (suc (N .place)))))
       by true e =
           decides (eqb (N .value) (t .whole)) _ _ (λ h. eqb-true (N .value) (t .whole) h ∙ i .whole)
           (λ h q. eqb-false (N .value) (t .whole) h (q ∙ sym (i .whole))) refl none-found
@@ -285,7 +285,7 @@ module _ (M : Model) (words : List ℕ) (m : ModelKept) (t : TableRead) (k : Kep
 
   nodes-found :
       (Ns : List Node) (n : ℕ) → Each (NodeIs k) n Ns → All (NodeShaped M W words) Ns →
-      Finds (nodesChecks M W n Ns) (nodesFrom words (t .whole) m limited k (length Ns) n)
+      Finds (nodesChecks M W n Ns) (nodesFrom words (t .whole) m contained k (length Ns) n)
   unfolding Each nodesChecks nodesFrom findingAnswer
   nodes-found [] n y empty = record { says = tt }
   nodes-found (N ∷ Ns) n y (more g gs) = finds-first _ _ _ _ (node-found n N (y .0) g) (λ _. nodes-found Ns (suc n) (y .1) gs)
@@ -294,9 +294,9 @@ module _ (M : Model) (words : List ℕ) (m : ModelKept) (t : TableRead) (k : Kep
     (i : TableIndexed (tableOf M words) t k) (sh : Shaped M words (tableOf M words)) where
   pub walk-first :
       First (nodesChecks M (tableOf M words) 0 (tableOf M words .nodes)) (λ (_ : Unit {0}). Unit {0})
-      (findingAnswer (walked words m (limitedBelow (m .zones) (m .index .locations)) k t))
+      (findingAnswer (walked words m (containedBelow k (m .zones) (t .count)) k t))
   unfolding walked
   walk-first =
       let W : Table = tableOf M words in
       found-as (nodes-found M words m t k x good formed W i sh (W .nodes) 0 (i .each) (sh .nodes)) refl
-      (ap (λ (n : ℕ). nodesFrom words (t .whole) m (limitedBelow (m .zones) (m .index .locations)) k n 0) (i .count)) .says
+      (ap (λ (n : ℕ). nodesFrom words (t .whole) m (containedBelow k (m .zones) (t .count)) k n 0) (i .count)) .says

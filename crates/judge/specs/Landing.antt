@@ -1,9 +1,10 @@
 -- Algorithm: where an edge lands (document 02, card 4): the checks 17 and 18 of its successor, and what it adds to the row's sum. Assumes nothing.
-use Prim.Native.Nat.{ℕ, _*_}
-use mathlib.Core.Bool.{Bool, false, cond, _||_}
+use Prim.Native.Nat.{ℕ, _*_, _<_}
+use mathlib.Core.Bool.{Bool, false, cond, _&&_, _||_}
 use mathlib.Core.List.{List}
 use lib.Dec.{eqb}
 use lib.IntN.{ℤ}
+use lib.ListN.{getD}
 use Rattle.zone.specs.Squares.{resetSquare, empty?, inside?, Tightens}
 use Rattle.zone.specs.Stores.{zoneAt, HasSlot}
 use Rattle.zone.specs.declared.zones.Zone.{Zone as Square}
@@ -11,41 +12,43 @@ use Rattle.model.specs.Fields.{maskOf, landsAt, weightOf}
 use Rattle.table.specs.Nodes.{entryAt, HasNode}
 use Rattle.table.specs.Index.{Kept}
 use Rattle.table.specs.declared.nodes.NodeEntry.{NodeEntry}
-use Rattle.judge.specs.Reaching.{common, landsInside?}
+use Rattle.judge.specs.Reaching.{common}
 use Rattle.judge.specs.declared.findings.Finding.{Finding}
 use Rattle.judge.specs.declared.findings.Finding.the-variants as finding
 use Rattle.judge.specs.declared.landing.Outcome.{Outcome}
 
--- 18: the landings that a successor must hold, their table y, and its zone z, at the place p; `none` says whether there are none
-unfoldable pub heldFinding : Square → Bool → Square → ℕ → Finding
-heldFinding y none z p = cond (none || inside? y z) finding.None (finding.NotInside p)
+-- both checks hold, and the edge of a word has x in the sum
+unfoldable pub added : ℕ → ℕ → Outcome
+added w x = record { finding = finding.None; share = weightOf w * x }
 
--- a finding, and what the edge of a word adds to the row's sum if it has x there
-abbrev pub outcome : Finding → ℕ → ℕ → Outcome
-outcome f w x = record { finding = f; share = weightOf w * x }
+-- a check fails; the sum is not asked for
+unfoldable pub failed : Finding → Outcome
+failed f = record { finding = f; share = 0 }
 
--- what the edge of the word w comes to in a row, where its landings y do not come to nothing and lie at the location l: the successor has the zone z
--- and the value x, and V is `whole`
-unfoldable pub landingsOutcome : List ℤ → List Bool → ℕ → ℕ → Square → Square → ℕ → ℕ → Outcome
-landingsOutcome zs limited whole w y z x p =
-    let inside : Square = common y (zoneAt zs (landsAt w)) in
-    cond (landsInside? zs limited (landsAt w) y) (outcome (heldFinding y false z p) w x) (outcome (heldFinding inside (empty? inside) z p) w whole)
+-- 18 and the sum: the edge of the word w lands at its location's invariant i, its landings y are some, and its successor has the zone z and the
+-- value x. `contained` says whether that zone lies within i, and V is `whole`
+unfoldable pub landingsOutcome : ℕ → Square → Square → Square → Bool → ℕ → ℕ → ℕ → Outcome
+landingsOutcome w y i z contained x whole p =
+    cond (inside? y z && contained) (added w x)
+    (cond (inside? y i) (cond (inside? y z) (added w x) (failed (finding.NotInside p)))
+    (cond (empty? (common y i) || inside? (common y i) z) (added w whole) (failed (finding.NotInside p))))
 
 -- with a successor at the place p, the node s of those kept in k; `empty` says whether the row's reach is
 unfoldable pub successorOutcome : Square → Bool → ℕ → List ℤ → List Bool → ℕ → Kept → ℕ → ℕ → Outcome
-successorOutcome reach empty w zs limited whole k s p =
+successorOutcome reach empty w zs contained whole k s p =
     let N : NodeEntry = entryAt (k .nodes) s in
     cond (eqb (N .location) (landsAt w))
-    (cond empty (outcome finding.None w (N .value))
-    (landingsOutcome zs limited whole w (resetSquare (maskOf w) reach) (zoneAt (k .zones) s) (N .value) p))
-    (record { finding = finding.WrongLocation p; share = 0 })
+    (cond empty (added w (N .value))
+    (landingsOutcome w (resetSquare (maskOf w) reach) (zoneAt zs (landsAt w)) (zoneAt (k .zones) s) (getD contained s false) (N .value) whole p))
+    (failed (finding.WrongLocation p))
 
 -- ---- what it asks
 
--- the reach and the invariant that the edge lands at can be tightened, and that invariant and the successor are in the stores
+-- the reach and the invariant that the edge lands at can be tightened; that invariant and the successor are in the stores
 pub record SuccessorAsked (reach : Square) (w : ℕ) (zs : List ℤ) (k : Kept) (s : ℕ) : Type 0 where
   pub reached : Tightens 1 reach
   pub invariant : Tightens 1 (zoneAt zs (landsAt w))
   pub location : HasSlot (landsAt w) zs
+  pub number : s < 64
   pub node : HasNode s (k .nodes)
   pub zone : HasSlot s (k .zones)

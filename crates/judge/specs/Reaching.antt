@@ -1,13 +1,15 @@
 -- Algorithm: square tables for a row's reach and for where its edges land. Where a node's states can wait is worked out once per node, a row's
 -- reach by one more meeting, and what an edge's landings have of the invariant that they land at by another. Assumes nothing.
-use Prim.Native.Nat.{ℕ, zero, suc}
-use mathlib.Core.Bool.{Bool, false, not, _||_}
+use Prim.Native.Nat.{ℕ, zero, suc, _≤_, _<_}
+use mathlib.Core.Bool.{Bool, false}
 use mathlib.Core.List.{List}
 use lib.IntN.{ℤ}
-use lib.ListN.{getD, set}
-use Rattle.zone.specs.Squares.{listOf, universe, met, tightened, delayedSquare, inside?}
-use Rattle.zone.specs.Stores.{zoneAt}
+use lib.ListN.{set}
+use Rattle.zone.specs.Squares.{listOf, met, tightened, delayedSquare, inside?}
+use Rattle.zone.specs.Stores.{zoneAt, HasSlot}
 use Rattle.zone.specs.declared.zones.Zone.{Zone as Square}
+use Rattle.table.specs.Nodes.{entryAt}
+use Rattle.table.specs.Index.{Kept, StoresFit}
 
 -- what two zones have in common, tightened
 unfoldable pub common : Square → Square → Square
@@ -17,13 +19,16 @@ common y z = tightened (met y z)
 unfoldable pub waitedSquare : Square → Square → Square
 waitedSquare y i = met (delayedSquare (common y i)) i
 
--- ---- the invariants that edges land at; zs are the keys of the model's zones
+-- ---- the nodes whose zones lie within the invariants of their locations; zs are the keys of the model's zones
 
--- of each of the first n of 16 locations, whether its invariant leaves a valuation out
-unfoldable pub limitedBelow : List ℤ → ℕ → List Bool
-limitedBelow zs zero = listOf (λ _. false) 16 0
-limitedBelow zs (suc n) = set (limitedBelow zs n) n (not (inside? universe (zoneAt zs n)))
+-- of each of the first n of 64 nodes
+unfoldable pub containedBelow : Kept → List ℤ → ℕ → List Bool
+containedBelow k zs zero = listOf (λ _. false) 64 0
+containedBelow k zs (suc n) = set (containedBelow k zs n) n (inside? (zoneAt (k .zones) n) (zoneAt zs (entryAt (k .nodes) n .location)))
 
--- every landing of an edge, their table y, lies in the invariant of its location l
-unfoldable pub landsInside? : List ℤ → List Bool → ℕ → Square → Bool
-landsInside? zs limited l y = not (getD limited l false) || inside? y (zoneAt zs l)
+-- what it asks: the nodes and their invariants are in the stores
+pub record NodesAsked (k : Kept) (zs : List ℤ) (count : ℕ) : Type 0 where
+  pub limit : count ≤ 64
+  pub stores : StoresFit (k .nodes) (k .zones)
+  pub invariants : HasSlot 15 zs
+  pub locations : (n : ℕ) → n < count → entryAt (k .nodes) n .location < 16

@@ -27,13 +27,14 @@ use Rattle.judge.specs.declared.findings.Finding.{Finding}
 use Rattle.judge.specs.declared.findings.Finding.the-variants as finding
 use Rattle.judge.specs.declared.landing.Outcome.{Outcome}
 
--- the table's words and its V, what is kept of the model, with which of its locations are limited, and what is kept of the table
-module _ (words : List ℕ) (whole : ℕ) (m : ModelKept) (limited : List Bool) (k : TableKept) where
+-- the table's words and its V, what is kept of the model, and of the table, with which of its nodes have zones
+-- within their invariants
+module _ (words : List ℕ) (whole : ℕ) (m : ModelKept) (contained : List Bool) (k : TableKept) where
   -- n successors from the edge e and the place `at` on, with the sum so far; `first` is the place of the row's first word
   unfoldable pub successorsFrom : Square → Bool → ℕ → ℕ → ℕ → ℕ → ℕ → ℕ → Finding
   successorsFrom reach empty limit first zero e at sum = cond (leb sum limit) finding.None (finding.SumTooLarge first)
   successorsFrom reach empty limit first (suc n) e at sum =
-      let o : Outcome = successorOutcome reach empty (getD (m .edges) e 0) (m .zones) limited whole k (numberOf (getD words at 0)) at in
+      let o : Outcome = successorOutcome reach empty (getD (m .edges) e 0) (m .zones) contained whole k (numberOf (getD words at 0)) at in
       orElse (o .finding) (successorsFrom reach empty limit first n (suc e) (suc at) (sum + o .share))
 
   -- n rows from the action a and the place `at` on, of a node of that value
@@ -71,7 +72,7 @@ module _ (words : List ℕ) (whole : ℕ) (m : ModelKept) (limited : List Bool) 
 
 -- all of them
 unfoldable pub walked : List ℕ → ModelKept → List Bool → TableKept → TableRead → Finding
-walked words m limited k t = nodesFrom words (t .whole) m limited k (t .count) 0
+walked words m contained k t = nodesFrom words (t .whole) m contained k (t .count) 0
 
 -- ---- what the walk asks: every word, zone and number that it looks at is there and within its range
 module _ (words : List ℕ) (m : ModelKept) (k : TableKept) where

@@ -1,9 +1,9 @@
-// The zones of a row's reach, and which invariants an edge can land outside of.
+// The zones of a row's reach, and which nodes have zones within their invariants.
 ghost use mathlib.Core.Path.{_≡_};
-ghost use Prim.Native.Nat.{_≤_};
 ghost use Rattle.zone.specs.Squares.{Tightens};
-ghost use Rattle.zone.specs.Stores.{HasSlot};
-ghost use Rattle.judge.specs.Reaching.{common, waitedSquare, limitedBelow};
+ghost use Rattle.table.specs.Index.{keep};
+ghost use Rattle.judge.specs.Reaching.{common, waitedSquare, containedBelow, NodesAsked};
+use table::nodes::NodeEntry;
 use zone::zones::Zone;
 
 // What two zones have in common, tightened. With what waiting attains and the guard of an action it is the action's reach, before resets.
@@ -23,16 +23,16 @@ pub(crate) fn waited(zone: Zone, invariant: Zone) -> Zone
     common(zone, invariant).delay().meet(invariant)
 }
 
-// Of each location of a model, whether its invariant leaves a valuation out, so that an edge may land outside. `zones` has the model's
-// invariants in its first slots.
-pub(crate) fn limited(zones: &[i32], locations: usize) -> [bool; 16]
-    requires { ⌜ (locations ≤ 16) × HasSlot 15 (now zones) ⌝ }
-    ensures { λ r. ⌜ r ≡ limitedBelow (now (zones .entry)) locations ⌝ }
+// Of each of so many nodes, whether its zone lies within the invariant of its location. What lands in such a zone cannot land outside.
+pub(crate) fn contained(nodes: &[usize], zones: &[i32], invariants: &[i32], count: usize) -> [bool; 64]
+    requires { ⌜ NodesAsked (keep (now nodes) (now zones)) (now invariants) count ⌝ }
+    ensures { λ r. ⌜ r ≡ containedBelow (keep (now (nodes .entry)) (now (zones .entry))) (now (invariants .entry)) count ⌝ }
 {
-    let all = Zone::universe();
-    let mut out = [false; 16];
-    for l in 0..locations {
-        out[l] = !all.inside(Zone::load(zones, l));
+    let mut out = [false; 64];
+    for n in 0..count {
+        let node = NodeEntry::load(nodes, n);
+        let zone = Zone::load(zones, n);
+        out[n] = zone.inside(Zone::load(invariants, node.location as usize));
     }
     out
 }

@@ -129,8 +129,8 @@ pub fn judge(model: &[u32], table: &[u32]) -> Verdict
     let TableAnswer::Good = table_answer else {
         return words_refused(table_answer);
     };
-    let limited = reaching::limited(&guards, index.locations);
-    let finding = walk::walk(table, index, &edges, &guards, limited, table_read, &nodes, &zones);
+    let contained = reaching::contained(&nodes, &zones, &guards, table_read.count);
+    let finding = walk::walk(table, index, &edges, &guards, contained, table_read, &nodes, &zones);
     let Finding::None = finding else {
         return node_refused(finding);
     };

@@ -18,13 +18,14 @@ use zone::words;
 use zone::zones::Zone;
 
 // Judges the rows of a node, numbered n, row by row and successor by successor. The first check that fails leaves both loops, with its place.
-// `guards` has the zones of the model, invariants and guards; `limited` says which invariants leave something out, and V is `whole`.
+// `guards` has the zones of the model, invariants and guards; `contained` says which nodes have zones within their invariants, and V is
+// `whole`.
 pub(crate) fn rows_finding(
     list: &[u32],
     index: Index,
     edges: &[u32],
     guards: &[i32],
-    limited: [bool; 16],
+    contained: [bool; 64],
     whole: u32,
     nodes: &[usize],
     zones: &[i32],
@@ -32,7 +33,7 @@ pub(crate) fn rows_finding(
     node: NodeEntry,
 ) -> Finding
     requires { ⌜ RowsAsked (now list) (keepModel index (now edges) (now guards)) (keepTable (now nodes) (now zones)) n node ⌝ }
-    ensures { λ r. ⌜ r ≡ rowsFinding (now (list .entry)) whole (keepModel index (now (edges .entry)) (now (guards .entry))) limited (keepTable (now (nodes .entry)) (now (zones .entry))) n node ⌝ }
+    ensures { λ r. ⌜ r ≡ rowsFinding (now (list .entry)) whole (keepModel index (now (edges .entry)) (now (guards .entry))) contained (keepTable (now (nodes .entry)) (now (zones .entry))) n node ⌝ }
 {
     let l = node.location as usize;
     let first_action = index.actions[l] as usize;
@@ -59,7 +60,7 @@ pub(crate) fn rows_finding(
             let mut sum: u64 = 0;
             for e in index.edges[a] as usize..index.edges[a + 1] as usize {
                 let s = fields::number_of(list[at]) as usize;
-                let outcome = landing::successor(reach, empty, edges[e], guards, limited, whole, nodes, zones, s, at);
+                let outcome = landing::successor(reach, empty, edges[e], guards, contained, whole, nodes, zones, s, at);
                 let found = outcome.finding;
                 let Finding::None = found else {
                     finding = found;
@@ -83,14 +84,14 @@ pub(crate) fn walk_node(
     index: Index,
     edges: &[u32],
     guards: &[i32],
-    limited: [bool; 16],
+    contained: [bool; 64],
     whole: u32,
     nodes: &[usize],
     zones: &[i32],
     n: usize,
 ) -> Finding
     requires { ⌜ NodeAsked (now list) (keepModel index (now edges) (now guards)) (keepTable (now nodes) (now zones)) n ⌝ }
-    ensures { λ r. ⌜ r ≡ nodeFinding (now (list .entry)) whole (keepModel index (now (edges .entry)) (now (guards .entry))) limited (keepTable (now (nodes .entry)) (now (zones .entry))) n ⌝ }
+    ensures { λ r. ⌜ r ≡ nodeFinding (now (list .entry)) whole (keepModel index (now (edges .entry)) (now (guards .entry))) contained (keepTable (now (nodes .entry)) (now (zones .entry))) n ⌝ }
 {
     let node = NodeEntry::load(nodes, n);
     if index.targets[node.location as usize] {
@@ -103,7 +104,7 @@ pub(crate) fn walk_node(
     if words::kind_of(list[behind]) == kinds::CUT {
         return cutting::cut_finding(list, nodes, zones, n, node, behind);
     }
-    rows_finding(list, index, edges, guards, limited, whole, nodes, zones, n, node)
+    rows_finding(list, index, edges, guards, contained, whole, nodes, zones, n, node)
 }
 
 // Judges node by node.
@@ -112,16 +113,16 @@ pub(crate) fn walk(
     index: Index,
     edges: &[u32],
     guards: &[i32],
-    limited: [bool; 16],
+    contained: [bool; 64],
     table: TableRead,
     nodes: &[usize],
     zones: &[i32],
 ) -> Finding
     requires { ⌜ WalkAsked (now list) (keepModel index (now edges) (now guards)) (keepTable (now nodes) (now zones)) (table .count) ⌝ }
-    ensures { λ r. ⌜ r ≡ walked (now (list .entry)) (keepModel index (now (edges .entry)) (now (guards .entry))) limited (keepTable (now (nodes .entry)) (now (zones .entry))) table ⌝ }
+    ensures { λ r. ⌜ r ≡ walked (now (list .entry)) (keepModel index (now (edges .entry)) (now (guards .entry))) contained (keepTable (now (nodes .entry)) (now (zones .entry))) table ⌝ }
 {
     for n in 0..table.count {
-        let finding = walk_node(list, index, edges, guards, limited, table.whole, nodes, zones, n);
+        let finding = walk_node(list, index, edges, guards, contained, table.whole, nodes, zones, n);
         let Finding::None = finding else {
             return finding;
         };

@@ -1,7 +1,7 @@
 -- Laws of tests. Assumes nothing.
 use Prim.Native.Nat.{ℕ}
 use mathlib.Core.Path.{_≡_, refl, sym}
-use mathlib.Core.Bool.{Bool, true, false, not, cond, _&&_, _||_}
+use mathlib.Core.Bool.{Bool, true, false, not, cond, _&&_}
 use native.Mathlib.Omega.{arith}
 use lib.Dec.{T}
 
@@ -44,11 +44,6 @@ left-true false b e = e
 pub right-true : (a b : Bool) → (a && b) ≡ true → b ≡ true
 right-true true b e = e
 right-true false b e = false-true e
-
--- the second of two tests that both fail
-pub or-false : (a b : Bool) → (a || b) ≡ false → b ≡ false
-or-false true b e = true-false e
-or-false false b e = e
 
 pub untrue : (c : Bool) → (T c → ⊥) → T (not c)
 untrue true f = f tt

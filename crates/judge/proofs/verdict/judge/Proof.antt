@@ -11,7 +11,7 @@ use Rattle.model.specs.Index.{Kept as ModelKept, keep, StoresFit as ModelStores
 use Rattle.table.specs.Index.{Kept, keep as keepTable, StoresFit}
 use Rattle.acceptance.specs.Judging.{Judged}
 use Rattle.judge.specs.Verdicts.{verdictAnswer}
-use Rattle.judge.specs.Reaching.{limitedBelow}
+use Rattle.judge.specs.Reaching.{containedBelow}
 use Rattle.judge.specs.Walk.{walked}
 use Rattle.judge.specs.Findings.{findingAnswer}
 use Rattle.judge.specs.Deciding.{HandsOn}
@@ -22,9 +22,9 @@ use Rattle.judge.proofs.Answering.{
   with-demands,
   model-refused,
   fits,
-  few-locations,
   words-refused,
   asked,
+  nodes-asked,
   node-refused,
   start-node,
   start-slot,
@@ -96,14 +96,14 @@ told c = listed c .before .before .before .before
 
 -- the nodes are walked
 abbrev good : tie.After-walk → tie.After-enum-told2
-good c = c .before .before .before .before .before .before .before
+good c = c .before .before .before .before .before .before .before .before .before
 
--- with which of its invariants leave something out
+-- with which of its nodes have zones within their invariants
 walks :
     (c : tie.After-walk) → let g = good c in let m = read (told g) in
-    c .walk .result ≡
-    walked (list m) (model m) (limitedBelow (guards m) (m .index-model .result .index .locations)) (table (listed g)) (listed g .index-table .result)
-walks c = rw (← c .before .before .before .before .before .limited .ensures) (c .walk .ensures)
+    let t = listed g .index-table .result in
+    c .walk .result ≡ walked (list m) (model m) (containedBelow (table (listed g)) (guards m) (t .count)) (table (listed g)) t
+walks c = rw (← c .before .before .before .before .before .contained .ensures) (c .walk .ensures)
 
 -- the last checks are those of the start node
 starts :
@@ -133,15 +133,15 @@ returns-2 c =
     (words-refused _ _ _ _ (model-accepted m) (list (read m)) _ _ _ (t .index-table .ensures .1 .1) _ (c .words-refused .ensures)
     (λ q. miss (1 ∷ 2 ∷ 3 ∷ 4 ∷ []) 0 tt (rw q at (c .before .match2 .keys2))))
 
-limited-requires : tie.Need-limited-requires
-limited-requires c κs =
-    let m = model-accepted (told (c .before)) in
-    let room = m .room .zones in
-    (few-locations _ _ _ _ m, record { room = omega arith })
+contained-requires : tie.Need-contained-requires
+contained-requires c κs =
+    let g = c .before .before .before in
+    nodes-asked _ _ _ _ (model-accepted (told g)) (list (read (told g))) _ _ _ (listed g .index-table .ensures .1 .1) (g .enum-told2 .given .1)
+    (table-room (g .before .before))
 
 walk-requires : tie.Need-walk-requires
 walk-requires c κs =
-    let g = c .before .before .before .before .before .before in
+    let g = c .before .before .before .before .before .before .before .before in
     asked _ _ _ _ (model-accepted (told g)) (list (read (told g))) _ _ _ (listed g .index-table .ensures .1 .1) (g .enum-told2 .given .1)
     (table-room (g .before .before))
 
@@ -181,6 +181,6 @@ judge-spec =
     tie.close
     (tie.spec (λ c. search needs) (λ c. search needs) (λ c κs. search needs) (λ c. search needs) (λ c κs. search needs) returns
     (λ c. search needs) (λ c. search needs) index-table-requires (λ c. search needs) (λ c κs. search needs) returns-2 (λ c. search needs)
-    limited-requires (λ c. search needs) (λ c. search needs) (λ c. search needs) (λ c. search needs) walk-requires (λ c. search needs)
+    (λ c. search needs) (λ c. search needs) contained-requires (λ c. search needs) (λ c. search needs) (λ c. search needs) (λ c. search needs) walk-requires (λ c. search needs)
     (λ c κs. search needs) returns-3 (λ c. search needs) (λ c. search needs) load-requires (λ c. search needs) load-requires-2
     (λ c κs. search needs) returns-4)

@@ -21,23 +21,23 @@ use Rattle.judge.proofs.walk.rows_finding.Statement.{statement}
 use Rattle.judge.proofs.walk.rows_finding.Tie as tie
 
 abbrev Inv-loop : tie.InvT-loop
-Inv-loop list edges guards limited whole nodes zones n node index l first-action stop waited f₀ at₀ a reach empty blocked limit first sum₀ e₀ end f at sum e =
+Inv-loop list edges guards contained whole nodes zones n node index l first-action stop waited f₀ at₀ a reach empty blocked limit first sum₀ e₀ end f at sum e =
     let m : ModelKept = keepModel index edges guards in
     let k : TableKept = keepTable nodes zones in
-    AtSuccessor list whole m limited k (rowsFinding list whole m limited k n node) waited (node .value) stop a reach empty limit first end f at sum e
+    AtSuccessor list whole m contained k (rowsFinding list whole m contained k n node) waited (node .value) stop a reach empty limit first end f at sum e
 
 abbrev μ-loop : tie.MeasureT-loop
-μ-loop list edges guards limited whole nodes zones n node index l first-action stop waited f₀ at₀ a reach empty blocked limit first sum₀ e₀ end f at sum e =
+μ-loop list edges guards contained whole nodes zones n node index l first-action stop waited f₀ at₀ a reach empty blocked limit first sum₀ e₀ end f at sum e =
     end - e
 
 abbrev Inv-rows : tie.InvT-rows
-Inv-rows list edges guards limited whole nodes zones n node index l first-action stop waited f₀ at₀ a₀ f at a =
+Inv-rows list edges guards contained whole nodes zones n node index l first-action stop waited f₀ at₀ a₀ f at a =
     let m : ModelKept = keepModel index edges guards in
     let k : TableKept = keepTable nodes zones in
-    AtRow list whole m limited k (rowsFinding list whole m limited k n node) waited (node .value) stop f at a
+    AtRow list whole m contained k (rowsFinding list whole m contained k n node) waited (node .value) stop f at a
 
 abbrev μ-rows : tie.MeasureT-rows
-μ-rows list edges guards limited whole nodes zones n node index l first-action stop waited f₀ at₀ a₀ f at a = stop - a
+μ-rows list edges guards contained whole nodes zones n node index l first-action stop waited f₀ at₀ a₀ f at a = stop - a
 
 -- ---- the turns of the loops: at a row, at a successor
 abbrev Start : Type 0
@@ -79,7 +79,7 @@ reach-is :
     (c : tie.After-kind-of Inv-loop μ-loop Inv-rows μ-rows) →
     let k = c .before .before .before .before .before in
     let s = start (begun k) in
-    ReachAt (s .args .list .now) (s .args .whole) (model s) (s .args .limited) (table s) (k .before .before .before .waited .result) (k .before .rows .a)
+    ReachAt (s .args .list .now) (s .args .whole) (model s) (s .args .contained) (table s) (k .before .before .before .waited .result) (k .before .rows .a)
     (c .before .before .before .common .result) (c .before .before .is-empty .result)
 reach-is c = record {
   reaches = rw (← c .before .before .before .before .load3 .ensures) (c .before .before .before .common .ensures);
@@ -230,7 +230,7 @@ successor-requires c κs =
     let room = zones-room s in
     let slots = guards-room s in
     let rows = s .pre .stores .table .nodes in
-    successor-asked _ _ _ _ _ (k .before .loop .inv) (k .loop-test .taken) refl (search needs) (search needs) (search needs)
+    successor-asked _ _ _ _ _ (k .before .loop .inv) (k .loop-test .taken) refl (search needs) (omega arith) (search needs) (search needs)
 
 add-sum : tie.Need-add-sum Inv-loop μ-loop Inv-rows μ-rows
 add-sum c =

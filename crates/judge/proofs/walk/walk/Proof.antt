@@ -13,13 +13,13 @@ use Rattle.judge.proofs.walk.walk.Statement.{statement}
 use Rattle.judge.proofs.walk.walk.Tie as tie
 
 abbrev Inv-loop : tie.InvT-loop
-Inv-loop list index edges guards limited table nodes zones n₀ n-end n =
+Inv-loop list index edges guards contained table nodes zones n₀ n-end n =
     let m : ModelKept = keep index edges guards in
     let k : Kept = keepTable nodes zones in
-    AtNode list (table .whole) m limited k (walked list m limited k table) n-end n
+    AtNode list (table .whole) m contained k (walked list m contained k table) n-end n
 
 abbrev μ-loop : tie.MeasureT-loop
-μ-loop list index edges guards limited table nodes zones n₀ n-end n = n-end - n
+μ-loop list index edges guards contained table nodes zones n₀ n-end n = n-end - n
 
 loop-holds : tie.Need-loop-holds Inv-loop μ-loop
 loop-holds c = nodes-begin _ _ _ _ _ _ refl
