@@ -108,8 +108,8 @@ unfolding
     later landing invariant? throughout? allowed? perStep edgesCount choiceCount moveCount atTarget? landingCount weightedCount
 attained = (refl, refl, refl, refl, refl, refl)
 
--- ---- document 02, card 4: the timeline with a location 1 that may hold for two units only. After two units the edge of weight 9 lands inside and
--- that of weight 1 at the target; later in the same invariant the first lands outside, and both weights count; the guard and the invariant of
+-- ---- document 02, card 4: the timeline with the invariant "clock at most 2" at location 1. After two units the edge of weight 9 lands inside and
+-- that of weight 1 at the target; later, up to three units, the first lands outside, and both weights count. The guard and the invariant of
 -- location 0 still limit the choice
 
 abbrev pub closing : List ℕ
@@ -117,11 +117,11 @@ closing =
     0x1110000A ∷ 0x20000000 ∷ 0x51001003 ∷ 0x30000000 ∷ 0x50100FFE ∷ 0x40010009 ∷ 0x40020001 ∷ 0x20000000 ∷ 0x51001002 ∷ 0x20000001 ∷
     0x60000000 ∷ 0x51001000 ∷ []
 
--- the target may hold for two units only, and the other location, at the end of the edge of weight 1, for ever
+-- the target is location 1, with that invariant; location 2, without one, is none
 abbrev pub closingTarget : List ℕ
 closingTarget = set (set closing 7 0x20000001) 9 0x20000000
 
--- one edge lands inside and one outside in one choice: location 1 has no end, and location 2, no target, may hold for two units only
+-- one edge lands inside and one outside in one choice: location 1 has no invariant, location 2 has that one, and neither is a target
 abbrev pub closingOther : List ℕ
 closingOther =
     0x1110000A ∷ 0x20000000 ∷ 0x51001003 ∷ 0x30000000 ∷ 0x50100FFE ∷ 0x40010007 ∷ 0x40020003 ∷ 0x20000000 ∷ 0x20000000 ∷ 0x51001002 ∷

@@ -4,6 +4,7 @@ use Prim.Native.Nat.{ℕ}
 use mathlib.Core.Logic.{_⊎_, inl, inr}
 use mathlib.Core.Bool.{Bool, true, false, not}
 use lib.Dec.{T}
+use Rattle.zone.proofs.Bools.{not-both}
 use Rattle.zone.specs.Scale.{Valuation, Bound, holds?, within}
 use Rattle.table.specs.Table.{Node}
 use Rattle.acceptance.specs.Acceptance.{holdingPart, restPart}
@@ -19,11 +20,7 @@ module _ (N : Node) (b : Bound) (k : ℕ) (v : Valuation) where
 
   pub parts-apart : holdingPart N b k v → restPart N b k v → ⊥
   unfolding holdingPart restPart
-  parts-apart p q = by (holds? k v b) (p .1) (q .1)
-    where
-      by : (c : Bool) → T c → T (not c) → ⊥
-      by true s t = t
-      by false s t = s
+  parts-apart p q = not-both (holds? k v b) (p .1) (q .1)
 
   pub parts-within : holdingPart N b k v ⊎ restPart N b k v → within (N .zone) k v
   unfolding holdingPart restPart

@@ -3,10 +3,9 @@
 use Prim.Native.Nat.{ℕ, _+_, _*_, _≤_, zero-le}
 use mathlib.Core.Path.{_≡_, refl, sym, _∙_}
 use mathlib.Core.Logic.{_⊎_, inl, inr}
-use mathlib.Core.Bool.{Bool, true, false, not}
 use mathlib.Core.List.{List, [], _∷_}
 use native.Mathlib.Nat.{le-refl, add-le-add, mul-le-mul-left}
-use lib.Dec.{T}
+use Rattle.zone.proofs.Bools.{not-untrue, not-both}
 use Rattle.zone.specs.Scale.{in?, within, Inside}
 use Rattle.model.specs.Model.{Edge, Action, Model}
 use Rattle.model.specs.States.{locationAt}
@@ -20,25 +19,16 @@ module _ (M : Model) (W : Table) (N : Node) (A : Action) where
   abbrev pub LandsInside : Edge → Type 0
   LandsInside e = Inside (landings M N A e) (within (locationAt M (e .to) .invariant))
 
-  pub lands-inside : (e : Edge) → (CanLandOutside M N A e → ⊥) → LandsInside e
+  pub cannot-inside : (e : Edge) → (CanLandOutside M N A e → ⊥) → LandsInside e
   unfolding within
-  lands-inside e un = record {
-    at = λ k k₁ v p. by (in? k v (locationAt M (e .to) .invariant))
+  cannot-inside e un = record {
+    at = λ k k₁ v p. not-untrue (in? k v (locationAt M (e .to) .invariant))
         (λ o. un (record { scale = k; positive = k₁; valuation = v; lands = p; outside = o }));
   }
-    where
-      by : (c : Bool) → (T (not c) → ⊥) → T c
-      by true f = tt
-      by false f = f tt
 
   pub inside-cannot : (e : Edge) → LandsInside e → CanLandOutside M N A e → ⊥
   unfolding within
-  inside-cannot e i o =
-      by (in? (o .scale) (o .valuation) (locationAt M (e .to) .invariant)) (i .at (o .scale) (o .positive) (o .valuation) (o .lands)) (o .outside)
-    where
-      by : (c : Bool) → T c → T (not c) → ⊥
-      by true s t = t
-      by false s t = s
+  inside-cannot e i o = not-both (in? (o .scale) (o .valuation) (locationAt M (e .to) .invariant)) (i .at _ (o .positive) _ (o .lands)) (o .outside)
 
   -- ---- at most one sum
 

@@ -32,7 +32,7 @@ use Rattle.acceptance.specs.Acceptance.{
 }
 use Rattle.acceptance.specs.declared.certificate.Certificate.{Certificate}
 
--- by successor 17: wrong location, 18: reset reach not inside, of which the landings inside alone count (each at its B word). `tableOf` gives a
+-- by successor 17: wrong location, 18: reset reach not inside, only the landings inside asked (card 4; each at its B word). `tableOf` gives a
 -- successor for each edge and, below, a row for each action, so neither list ends before the other
 unfoldable pub successorChecks : Model → Table → Node → Action → List Edge → List Successor → List Check
 successorChecks M W N A [] ss = []

@@ -119,7 +119,6 @@ module _ (words : List ℕ) (r : ModelRead) (es : List ℕ) (zs : List ℤ) (m :
   pub fits : IndexFits (r .index)
   fits = index-fits formed x
 
-
   -- the table's nodes and their zones stand in the stores ns and ys
   module _ (list : List ℕ) (t : TableRead) (ns : List ℕ) (ys : List ℤ) (rows : ReadFor (r .index) list t ns ys) where
     abbrev W : Table

@@ -109,7 +109,26 @@ unfolding
     holdingSquare restSquare partFinding cutFinding nodeFinding nodesFrom walked startVerdict verdictAnswer behindModel
     behindWords behindNodes judged judgedBehind judgedFrom computed
 answers = (
-  refl, refl, refl, refl, refl, refl, refl, refl, refl, refl, refl, refl, refl, refl, refl, refl, refl, refl, refl, refl,
+  refl,
+  refl,
+  refl,
+  refl,
+  refl,
+  refl,
+  refl,
+  refl,
+  refl,
+  refl,
+  refl,
+  refl,
+  refl,
+  refl,
+  refl,
+  refl,
+  refl,
+  refl,
+  refl,
+  refl,
 )
 
 -- what is computed is the answer
@@ -162,9 +181,9 @@ cut-cases = (
   answered _ _ _ (answers .14),
 )
 
--- M with a location 1 that holds for two units, where the action may be taken until three: the edge of weight 9 can land outside. T is refused, which
--- gave 1/10 before; the value 10 is accepted, also where node 1 holds two units only, the landings inside, but not where it leaves two itself out.
--- Where location 1 holds for one unit every landing is outside, and the row, blocked before, no longer is
+-- M with the invariant "clock at most 2" at location 1, where the action may be taken until three: the edge of weight 9 can land outside. T, accepted
+-- before with 1/10, is refused; the value 10 is accepted, also where node 1 has that bound and so holds the landings inside alone, but not where its
+-- bound is strict. With "clock at most 1" at location 1 every landing is outside, and the row, blocked before, no longer is
 pub outside-cases :
     Judged closing table (refused 19 4) ×
     Judged closing (set table 3 0x9000000A) acceptsWhole ×

@@ -188,21 +188,30 @@ module _ (M : Model) (words : List ℕ) (m : ModelKept) (t : TableRead) (k : Kep
             let there : s < t .count = omega (arith, l, i .count) in
             contained-at k (m .zones) (t .count) s there (i .limit) ∙ rw (node-at i s l .zone, node-at i s l .location, at, table-is) refl
 
+        -- by whether every landing is inside
+        rest : (at : nodeAt W s .location ≡ E .to) → empty? reach ≡ false → (h j q : Bool) → inside? landed zoneTable ≡ h →
+            inside? landed invariantTable ≡ j → (empty? (common landed invariantTable) || inside? (common landed invariantTable) zoneTable) ≡ q →
+            Comes E S
+            (cond j
+            (cond h (record { finding = finding.None; share = E .weight * nodeAt W s .value }) (record { finding = finding.NotInside p; share = 0 }))
+            (cond q (record { finding = finding.None; share = E .weight * t .whole }) (record { finding = finding.NotInside p; share = 0 })))
+        rest at e true true q eh ej eq = inside-held at e (z .onward-pass e (E .mask) invariant good-invariant ej) eh
+        rest at e false true q eh ej eq = inside-not-held at e (z .onward-pass e (E .mask) invariant good-invariant ej) eh
+        rest at e h false true eh ej eq = part-held at e (somewhere e ej) eq
+        rest at e h false false eh ej eq = part-not-held at e (somewhere e ej) eq
+
         by-tests : (at : nodeAt W s .location ≡ E .to) → empty? reach ≡ false → (h c j q : Bool) → inside? landed zoneTable ≡ h →
             inside? zoneTable invariantTable ≡ c → inside? landed invariantTable ≡ j →
             (empty? (common landed invariantTable) || inside? (common landed invariantTable) zoneTable) ≡ q →
             Comes E S
-            (cond (h && c) (record { finding = finding.None; share = E .weight * nodeAt W s .value })
+            (cond (c && h) (record { finding = finding.None; share = E .weight * nodeAt W s .value })
             (cond j
             (cond h (record { finding = finding.None; share = E .weight * nodeAt W s .value }) (record { finding = finding.NotInside p; share = 0 }))
             (cond q (record { finding = finding.None; share = E .weight * t .whole }) (record { finding = finding.NotInside p; share = 0 }))))
         by-tests at e true true j q eh ec ej eq = inside-held at e (zone-within at e eh ec) eh
-        by-tests at e true false true q eh ec ej eq = inside-held at e (z .onward-pass e (E .mask) invariant good-invariant ej) eh
-        by-tests at e false c true q eh ec ej eq = inside-not-held at e (z .onward-pass e (E .mask) invariant good-invariant ej) eh
-        by-tests at e true false false true eh ec ej eq = part-held at e (somewhere e ej) eq
-        by-tests at e true false false false eh ec ej eq = part-not-held at e (somewhere e ej) eq
-        by-tests at e false c false true eh ec ej eq = part-held at e (somewhere e ej) eq
-        by-tests at e false c false false eh ec ej eq = part-not-held at e (somewhere e ej) eq
+        by-tests at e true false j q eh ec ej eq = rest at e true j q eh ej eq
+        by-tests at e false true j q eh ec ej eq = rest at e false j q eh ej eq
+        by-tests at e false false j q eh ec ej eq = rest at e false j q eh ej eq
 
         pub comes : (w : ℕ) → edgeOf w ≡ E → Comes E S (successorOutcome reach (empty? reach) w (m .zones) contained (t .whole) k s p)
         unfolding successorOutcome landingsOutcome added failed
@@ -217,7 +226,7 @@ module _ (M : Model) (words : List ℕ) (m : ModelKept) (t : TableRead) (k : Kep
                 Comes E S
                 (cond c
                 (cond d (record { finding = finding.None; share = E .weight * nodeAt W s .value })
-                (cond (inside? landed zoneTable && getD contained s false) (record { finding = finding.None; share = E .weight * nodeAt W s .value })
+                (cond (getD contained s false && inside? landed zoneTable) (record { finding = finding.None; share = E .weight * nodeAt W s .value })
                 (cond (inside? landed invariantTable)
                 (cond (inside? landed zoneTable) (record { finding = finding.None; share = E .weight * nodeAt W s .value })
                 (record { finding = finding.NotInside p; share = 0 }))

@@ -53,6 +53,14 @@ module _ (k : Kept) (zs : List ℤ) where
   unfolding containedBelow
   contained-go n e en ez ei ef = rw (add-one n, e, ef, ez, ei, en)
 
+-- ---- the first test of an edge's landings, y, with the successor's zone, z, fails
+
+pub by-flag : {c : Bool} (y z : Square) → c ≡ false → (c && inside? y z) ≡ false
+by-flag y z e = rw e
+
+pub by-zone : {c b : Bool} {x y r u z : Square} → c ≡ true → x ≡ r → y ≡ r → u ≡ z → b ≡ inside? x u → b ≡ false → (c && inside? y z) ≡ false
+by-zone e ex ey ez eb h = rw (e, ey, ← ex, ← ez, ← eb, h)
+
 -- ---- what the code works out of an edge, step by step: the word w, its successor s, whose entry is N, at the place p
 
 module _ (reach : Square) (empty : Bool) (w : ℕ) (zs : List ℤ) (contained : List Bool) (whole : ℕ) (k : Kept) (s p : ℕ) {N : NodeEntry}
@@ -71,25 +79,25 @@ module _ (reach : Square) (empty : Bool) (w : ℕ) (zs : List ℤ) (contained : 
 
     -- the landings y, and the successor's zone z
     module _ (filled : empty ≡ false) {y z : Square} (ey : y ≡ resetSquare (maskOf w) reach) (ez : z ≡ zoneAt (k .zones) s) where
-      pub held-within : {held : Bool} → held ≡ inside? y z → (held && getD contained s false) ≡ true → added w (N .value) ≡ goal
+      pub held-within : getD contained s false ≡ true → inside? y z ≡ true → added w (N .value) ≡ goal
       unfolding successorOutcome landingsOutcome
-      held-within eh h = rw (← eN, eq-eqb _ _ at, filled, ← ey, ← ez, ← eh, h)
+      held-within c h = rw (← eN, eq-eqb _ _ at, filled, ← ey, ← ez, c, h)
 
-      -- the invariant i that the edge lands at
-      module _ {held : Bool} (eh : held ≡ inside? y z) (un : (held && getD contained s false) ≡ false) {i : Square} (ei : i ≡ zoneAt zs (landsAt w)) where
-        pub all-held : inside? y i ≡ true → held ≡ true → added w (N .value) ≡ goal
+      -- the invariant i that the edge lands at, where that does not settle it
+      module _ (un : (getD contained s false && inside? y z) ≡ false) {i : Square} (ei : i ≡ zoneAt zs (landsAt w)) where
+        pub all-held : inside? y i ≡ true → inside? y z ≡ true → added w (N .value) ≡ goal
         unfolding successorOutcome landingsOutcome
-        all-held l h = rw (← eN, eq-eqb _ _ at, filled, ← ey, ← ez, ← eh, un, ← ei, l, h)
+        all-held l h = rw (← eN, eq-eqb _ _ at, filled, ← ey, ← ez, un, ← ei, l, h)
 
-        pub not-held : inside? y i ≡ true → held ≡ false → failed (finding.NotInside p) ≡ goal
+        pub not-held : inside? y i ≡ true → inside? y z ≡ false → failed (finding.NotInside p) ≡ goal
         unfolding successorOutcome landingsOutcome
-        not-held l h = rw (← eN, eq-eqb _ _ at, filled, ← ey, ← ez, ← eh, un, ← ei, l, h)
+        not-held l h = rw (← eN, eq-eqb _ _ at, filled, ← ey, ← ez, un, ← ei, l, h)
 
         pub part-held : inside? y i ≡ false → {part : Square} → part ≡ common y i → (empty? part || inside? part z) ≡ true → added w whole ≡ goal
         unfolding successorOutcome landingsOutcome
-        part-held l ep h = rw (← eN, eq-eqb _ _ at, filled, ← ey, ← ez, ← eh, un, ← ei, l, ← ep, h)
+        part-held l ep h = rw (← eN, eq-eqb _ _ at, filled, ← ey, ← ez, un, ← ei, l, ← ep, h)
 
         pub part-not-held : inside? y i ≡ false → {part : Square} → part ≡ common y i → (empty? part || inside? part z) ≡ false →
             failed (finding.NotInside p) ≡ goal
         unfolding successorOutcome landingsOutcome
-        part-not-held l ep h = rw (← eN, eq-eqb _ _ at, filled, ← ey, ← ez, ← eh, un, ← ei, l, ← ep, h)
+        part-not-held l ep h = rw (← eN, eq-eqb _ _ at, filled, ← ey, ← ez, un, ← ei, l, ← ep, h)

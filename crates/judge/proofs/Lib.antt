@@ -1,4 +1,5 @@
--- The laws of `judge`, none of which uses a later one: the reach, the parts of a cut, the walk, the verdict; proofs of functions stand in folders of their own.
+-- The laws of `judge`, none of which uses a later one: findings, the parts of a cut, the reach, where edges land, the walk, the verdict; proofs of
+-- functions stand in folders of their own.
 pub mod FindingLaws
 pub mod PartLaws
 pub mod RowReach

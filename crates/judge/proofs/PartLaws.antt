@@ -37,13 +37,13 @@ pub record Decides (P : Region) (y : Square) : Type 0 where
   pub pass : (S : Zone) → GoodZone S → (empty? y || inside? y (withBounds S universe)) ≡ true → Inside P (within S)
   pub fail : (S : Zone) → GoodZone S → (empty? y || inside? y (withBounds S universe)) ≡ false → Inside P (within S) → ⊥
 
-pub decides : {P : Region} {y : Square} → Tightens 1 y → Spans P y → Decides P (tightened y)
-decides t s = record { pass = λ S g. lies-yes t s (stands-bounds S g); fail = λ S g. lies-no t s (stands-bounds S g) }
+pub table-decides : {P : Region} {y : Square} → Tightens 1 y → Spans P y → Decides P (tightened y)
+table-decides t s = record { pass = λ S g. lies-yes t s (stands-bounds S g); fail = λ S g. lies-no t s (stands-bounds S g) }
 
 -- the same of a table that has a bound more, whose region is said with that bound behind
 with-bound : {P Q : Region} {y : Square} → Tightens 3 y → Stands (inBoth P Q) y → Decides (inBoth Q P) (tightened y)
 with-bound {y = y} t s =
-    decides (tightens-fewer 1 3 y (omega arith) t) (spans (stands-same (λ k v p. (p .1, p .0)) (λ k v p. (p .1, p .0)) s))
+    table-decides (tightens-fewer 1 3 y (omega arith) t) (spans (stands-same (λ k v p. (p .1, p .0)) (λ k v p. (p .1, p .0)) s))
 
 -- a node with a good zone, cut by the bound of a word
 module _ (N : Node) (z : GoodZone (N .zone)) (w : ℕ) (g : GoodBound (boundOf w)) where

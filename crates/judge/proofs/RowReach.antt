@@ -29,7 +29,7 @@ use Rattle.table.specs.Table.{Node}
 use Rattle.acceptance.specs.Choices.{later, invariant?, throughout?, allowed?}
 use Rattle.acceptance.specs.Acceptance.{Reach}
 use Rattle.judge.specs.Reaching.{common, waitedSquare}
-use Rattle.judge.proofs.PartLaws.{Decides, decides}
+use Rattle.judge.proofs.PartLaws.{Decides, table-decides}
 
 -- the invariant holds throughout a delay where it holds before it and after it
 throughout-last : (M : Model) (k : ℕ) (s : State) (t : ℕ) → T (throughout? M k s t) → T (invariant? M k (later s t))
@@ -177,6 +177,6 @@ module _ {M : Model} {m : Kept} (x : Indexed M m) (good : GoodModel M) (N : Node
       pub part-decides : Decides (inBoth (ResetOf mask (Reach M N A)) (within S)) (common (resetSquare mask rowReach) (withBounds S universe))
       unfolding common
       part-decides =
-          decides
+          table-decides
           (small-met _ (small-reset _ (tightens-less 1 _ (omega arith) row-fits) mask) _ (tightens-fewer 1 3 _ (omega arith) (tightens-bounds S s)))
           (spans-met landings-span (stands-bounds S s))

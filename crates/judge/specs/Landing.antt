@@ -29,7 +29,7 @@ failed f = record { finding = f; share = 0 }
 -- value x. `contained` says whether that zone lies within i, and V is `whole`
 unfoldable pub landingsOutcome : ℕ → Square → Square → Square → Bool → ℕ → ℕ → ℕ → Outcome
 landingsOutcome w y i z contained x whole p =
-    cond (inside? y z && contained) (added w x)
+    cond (contained && inside? y z) (added w x)
     (cond (inside? y i) (cond (inside? y z) (added w x) (failed (finding.NotInside p)))
     (cond (empty? (common y i) || inside? (common y i) z) (added w whole) (failed (finding.NotInside p))))
 

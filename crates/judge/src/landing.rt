@@ -27,7 +27,10 @@ pub(crate) fn share(edge: u32, value: u32) -> u64
 pub(crate) fn adds(edge: u32, value: u32) -> Outcome
     ensures { λ r. ⌜ (r ≡ added edge value) × (r .share < 2 ^ 48) ⌝ }
 {
-    Outcome { finding: Finding::None, share: share(edge, value) }
+    Outcome {
+        finding: Finding::None,
+        share: share(edge, value),
+    }
 }
 
 // A check fails; the sum is not asked for.
@@ -39,7 +42,7 @@ pub(crate) fn fails(finding: Finding) -> Outcome
 
 // What the successor of an edge comes to, the node s, at a place. An edge that can land outside the invariant of its location has V, `whole`, in
 // the sum, and its successor need hold only the landings inside. `invariants` has those of the model, `contained` says which nodes have zones within
-// theirs, and `empty` whether the reach is.
+// theirs, and `empty` whether the reach is. Most edges need the first comparison alone, so the landings are not kept for the others.
 pub(crate) fn successor(
     reach: Zone,
     empty: bool,
@@ -64,14 +67,16 @@ pub(crate) fn successor(
     if empty {
         return adds(edge, node.value);
     }
-    let landings = reach.reset(fields::mask_of(edge));
-    let held = landings.inside(Zone::load(zones, s));
-    if held & contained[s] {
-        return adds(edge, node.value);
+    let mask = fields::mask_of(edge);
+    if contained[s] {
+        if reach.reset(mask).inside(Zone::load(zones, s)) {
+            return adds(edge, node.value);
+        }
     }
+    let landings = reach.reset(mask);
     let invariant = Zone::load(invariants, to as usize);
     if landings.inside(invariant) {
-        if held {
+        if landings.inside(Zone::load(zones, s)) {
             return adds(edge, node.value);
         }
         return fails(Finding::NotInside(place));

@@ -24,7 +24,12 @@ pub(crate) fn waited(zone: Zone, invariant: Zone) -> Zone
 }
 
 // Of each of so many nodes, whether its zone lies within the invariant of its location. What lands in such a zone cannot land outside.
-pub(crate) fn contained(nodes: &[usize], zones: &[i32], invariants: &[i32], count: usize) -> [bool; 64]
+pub(crate) fn contained(
+    nodes: &[usize],
+    zones: &[i32],
+    invariants: &[i32],
+    count: usize,
+) -> [bool; 64]
     requires { ⌜ NodesAsked (keep (now nodes) (now zones)) (now invariants) count ⌝ }
     ensures { λ r. ⌜ r ≡ containedBelow (keep (now (nodes .entry)) (now (zones .entry))) (now (invariants .entry)) count ⌝ }
 {

@@ -130,7 +130,16 @@ pub fn judge(model: &[u32], table: &[u32]) -> Verdict
         return words_refused(table_answer);
     };
     let contained = reaching::contained(&nodes, &zones, &guards, table_read.count);
-    let finding = walk::walk(table, index, &edges, &guards, contained, table_read, &nodes, &zones);
+    let finding = walk::walk(
+        table,
+        index,
+        &edges,
+        &guards,
+        contained,
+        table_read,
+        &nodes,
+        &zones,
+    );
     let Finding::None = finding else {
         return node_refused(finding);
     };

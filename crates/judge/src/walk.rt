@@ -60,7 +60,18 @@ pub(crate) fn rows_finding(
             let mut sum: u64 = 0;
             for e in index.edges[a] as usize..index.edges[a + 1] as usize {
                 let s = fields::number_of(list[at]) as usize;
-                let outcome = landing::successor(reach, empty, edges[e], guards, contained, whole, nodes, zones, s, at);
+                let outcome = landing::successor(
+                    reach,
+                    empty,
+                    edges[e],
+                    guards,
+                    contained,
+                    whole,
+                    nodes,
+                    zones,
+                    s,
+                    at,
+                );
                 let found = outcome.finding;
                 let Finding::None = found else {
                     finding = found;
@@ -104,7 +115,18 @@ pub(crate) fn walk_node(
     if words::kind_of(list[behind]) == kinds::CUT {
         return cutting::cut_finding(list, nodes, zones, n, node, behind);
     }
-    rows_finding(list, index, edges, guards, contained, whole, nodes, zones, n, node)
+    rows_finding(
+        list,
+        index,
+        edges,
+        guards,
+        contained,
+        whole,
+        nodes,
+        zones,
+        n,
+        node,
+    )
 }
 
 // Judges node by node.
@@ -122,7 +144,17 @@ pub(crate) fn walk(
     ensures { λ r. ⌜ r ≡ walked (now (list .entry)) (keepModel index (now (edges .entry)) (now (guards .entry))) contained (keepTable (now (nodes .entry)) (now (zones .entry))) table ⌝ }
 {
     for n in 0..table.count {
-        let finding = walk_node(list, index, edges, guards, contained, table.whole, nodes, zones, n);
+        let finding = walk_node(
+            list,
+            index,
+            edges,
+            guards,
+            contained,
+            table.whole,
+            nodes,
+            zones,
+            n,
+        );
         let Finding::None = finding else {
             return finding;
         };

@@ -8,13 +8,13 @@ use native.Mathlib.Omega.{arith}
 use lib.Dec.{T}
 use Rattle.zone.specs.Scale.{Valuation, read, holds?, Zone, in?, Region, within}
 use Rattle.zone.specs.Moves.{delayed, masked?, reset, ResetOf}
-use Rattle.zone.specs.Squares.{met, tightened, delayedSquare, source, resetSquare, reached, Tightens}
+use Rattle.zone.specs.Squares.{tightened, delayedSquare, source, resetSquare, Tightens}
 use Rattle.zone.specs.declared.zones.Zone.{Zone as Square}
 use Rattle.zone.proofs.Bools.{both, and}
 use Rattle.zone.proofs.Limits.{bounds}
 use Rattle.zone.proofs.KeyLaws.{boundLimit, holds→, →holds}
 use Rattle.zone.proofs.Sizes.{small-met, small-delayed, tightens-fewer, tightens-less}
-use Rattle.zone.proofs.SquareTables.{tableOf, table-met, table-tightened, table-delayed, table-reached, table-reset, source-lt}
+use Rattle.zone.proofs.SquareTables.{tableOf, table-met, table-tightened, table-delayed, attainedTable, reached, table-reached, table-reset, source-lt}
 use Rattle.zone.proofs.Regions.{Stands, inSquare, read-same}
 use Rattle.zone.proofs.Spans.{Multiple, Spans, Tight}
 use Rattle.zone.proofs.Theory.Meaning.{In, Good, diagonal, close-in, in-close, close-based, meet-based}
@@ -74,11 +74,7 @@ between (b ∷ z) k v s t p q =
 
 -- ---- the delay
 module _ {R S : Region} {y z : Square} (from-fits : Tightens 2 y) (into-fits : Tightens 1 z) (s : Stands R y) (t : Stands S z) where
-  -- what a delay from y attains in z, before it is tightened
-  abbrev pub attainedTable : Square
-  attainedTable = met (delayedSquare (tightened y)) z
-
-  pub attained-fits : Tightens 1 attainedTable
+  attained-fits : Tightens 1 (attainedTable y z)
   attained-fits = small-met _ (small-delayed _ (tightens-less 1 y (omega arith) from-fits)) z into-fits
 
   -- the theory's run, from a valuation v with clock 0 at 0, attains what the document says
@@ -120,13 +116,13 @@ module _ {R S : Region} {y z : Square} (from-fits : Tightens 2 y) (into-fits : T
       r : Run bounds 5 (tableOf y) (tableOf z) k (read v)
       r = in-reach bounds 5 (tableOf y) (tableOf z) (s .based) (diagonal bounds k₁ q) (omega arith) k₁ refl q
 
-  pub spans-attained : Spans (Attained R S) attainedTable
+  pub spans-attained : Spans (Attained R S) (attainedTable y z)
   unfolding inSquare
   spans-attained = record {
     based = rw (table-met (delayedSquare (tightened y)) z, table-delayed (tightened y), table-tightened y (tightens-fewer 1 2 y (omega arith) from-fits))
         (meet-based bounds (tableOf z) (delay-based bounds (close-based bounds 5 (s .based))));
-    into = λ k k₁ v a. in-close bounds 5 (tableOf attainedTable) k₁ (rw (table-tightened attainedTable attained-fits) at (attained-in k k₁ v a));
-    out = λ k k₁ v p. in-attained k k₁ v (rw (table-tightened attainedTable attained-fits) (close-in bounds p));
+    into = λ k k₁ v a. in-close bounds 5 (tableOf (attainedTable y z)) k₁ (rw (table-tightened (attainedTable y z) attained-fits) at (attained-in k k₁ v a));
+    out = λ k k₁ v p. in-attained k k₁ v (rw (table-tightened (attainedTable y z) attained-fits) (close-in bounds p));
   }
 
 -- ---- the reset

@@ -48,3 +48,11 @@ right-true false b e = false-true e
 pub untrue : (c : Bool) → (T c → ⊥) → T (not c)
 untrue true f = f tt
 untrue false f = tt
+
+pub not-untrue : (c : Bool) → (T (not c) → ⊥) → T c
+not-untrue true f = tt
+not-untrue false f = f tt
+
+pub not-both : (c : Bool) → T c → T (not c) → ⊥
+not-both true s t = t
+not-both false s t = s

@@ -77,7 +77,7 @@ spans-met {R} {S} {y} {z} s t = record {
         holds = (
           m .holds,
           t .out (m .factor * k) (N.one-le-mul (m .factor₁) k₁) (m .valuation)
-          (in-multiple bounds (m .factor) (m .factor₁) (m .reads) (in-meet-right bounds (tableOf y) (tableOf z) k₁ q)),
+              (in-multiple bounds (m .factor) (m .factor₁) (m .reads) (in-meet-right bounds (tableOf y) (tableOf z) k₁ q)),
         );
         reads = m .reads;
       };

@@ -20,7 +20,6 @@ use Rattle.zone.specs.Squares.{
   delayedSquare,
   source,
   resetSquare,
-  reached,
   universe,
   withBound,
   empty?,
@@ -166,10 +165,18 @@ table-delayed z =
     at (suc i) zero = rw eqb·suc-zero (same (ltb (suc i) 5 && true))
     at (suc i) (suc j) = rw (eqb·suc-zero i, eqb·suc-zero j) refl
 
+-- the table of what a delay from y attains in z, before it is tightened
+abbrev pub attainedTable : Square → Square → Square
+attainedTable y z = met (delayedSquare (tightened y)) z
+
+-- and tightened; at one scale it may hold more
+abbrev pub reached : Square → Square → Square
+reached y z = tightened (attainedTable y z)
+
 pub table-reached : (y z : Square) → Tightens 2 y → Tightens 1 z → tableOf (reached y z) ≡ reach bounds 5 (tableOf y) (tableOf z)
 unfolding reach
 table-reached y z s t =
-    table-tightened (met (delayedSquare (tightened y)) z) (small-met _ (small-delayed _ (tightens-less 1 y (omega arith) s)) z t)
+    table-tightened (attainedTable y z) (small-met _ (small-delayed _ (tightens-less 1 y (omega arith) s)) z t)
     ∙ ap (close bounds 5)
     (table-met (delayedSquare (tightened y)) z
     ∙ ap (λ A. meet bounds A (tableOf z)) (table-delayed (tightened y) ∙ ap (delay bounds) (table-tightened y (tightens-fewer 1 2 y (omega arith) s))))
@@ -201,12 +208,6 @@ table-universe i j hi hj =
 -- ---- one bound more
 pub sized-square : (f : ℕ → ℕ → Cell) → length (squareOf f .cells) ≡ 25
 sized-square f = listOf-length (λ p. f (p / 5) (p % 5)) 25 0
-
-pub sized-tightened : (z : Square) → length (tightened z .cells) ≡ 25
-unfolding passedBelow
-sized-tightened z =
-    let y : Square = passedBelow 4 z in
-    sized-square (λ i j. tighterOf (cell y i j) (sum (cell y i 4) (cell y 4 j)))
 
 module _ (i j : ℕ) (c : Cell) (z : Square) where
   pub sized-with : length (z .cells) ≡ 25 → length (withBound i j c z .cells) ≡ 25

@@ -58,10 +58,6 @@ source mask i = cond (masked? mask i) 0 i
 abbrev pub resetSquare : ℕ → Square → Square
 resetSquare mask z = squareOf (λ i j. cell z (source mask i) (source mask j))
 
--- the table of what a delay from y attains in z, tightened; at one scale it may hold more
-abbrev pub reached : Square → Square → Square
-reached y z = tightened (met (delayedSquare (tightened y)) z)
-
 -- f is true at every number below n
 unfoldable pub all? : ℕ → (ℕ → Bool) → Bool
 all? zero f = true

@@ -9,7 +9,7 @@ use native.Mathlib.Omega.{arith}
 use Rattle.zone.proofs.Theory.BoundLaws.{BoundLaws}
 use Rattle.zone.proofs.Theory.Tables.{Table}
 use Rattle.zone.proofs.Theory.Meaning.{In, Good}
-use Rattle.zone.proofs.Theory.Restore.{rename, rename-in, Restored, restore}
+use Rattle.zone.proofs.Theory.Restore.{rename, Restored, restore}
 
 -- ---- the clocks that a reset sets become clock 0
 unfoldable pub renamed : (ℕ → Bool) → ℕ → ℕ
@@ -36,9 +36,6 @@ module _ (𝓑 : BoundLaws) where
 
   abbrev pub reset : (ℕ → Bool) → Table 𝓑 → Table 𝓑
   reset masked A = rename 𝓑 (renamed masked) A
-
-  pub reset-in : {n : ℕ} {A : Table 𝓑} {k : ℕ} {v : ℕ → ℕ} (masked : ℕ → Bool) → In 𝓑 n A k v → In 𝓑 n (reset masked A) k (λ i. v (renamed masked i))
-  reset-in masked p = rename-in 𝓑 (renamed masked) (renamed-lt masked) p
 
   -- u, at a multiple of the scale, is the reset of a valuation v of A; the clocks that are not masked read in v what they read in u
   pub record Unreset (n : ℕ) (A : Table 𝓑) (masked : ℕ → Bool) (k : ℕ) (u : ℕ → ℕ) : Type 0 where

@@ -57,10 +57,6 @@ module _ (𝓑 : BoundLaws) where
   abbrev pub rename : (ℕ → ℕ) → Table 𝓑 → Table 𝓑
   rename ρ A i j = A (ρ i) (ρ j)
 
-  pub rename-in :
-      {n : ℕ} {A : Table 𝓑} {k : ℕ} {v : ℕ → ℕ} (ρ : ℕ → ℕ) → ((i : ℕ) → i < n → ρ i < n) → In 𝓑 n A k v → In 𝓑 n (rename ρ A) k (λ i. v (ρ i))
-  rename-in ρ small p = record { at = λ i j hi hj. p .at (ρ i) (ρ j) (small i hi) (small j hj) }
-
   -- ---- one clock m placed again
   module _ (n : ℕ) (A : Table 𝓑) (m : ℕ) (ρ : ℕ → ℕ) (k : ℕ) (u : ℕ → ℕ) where
     place : ℕ

@@ -54,8 +54,7 @@ array-write-out c =
 loop-again : tie.Need-loop-again Inv-loop μ-loop
 loop-again c =
     let load = c .before .before .before .before in
-    let turn = load .before .before .loop in
-    (
+    let turn = load .before .before .loop in (
       omega arith,
       contained-go _ _ (turn .n) (turn .inv .1) (load .load .ensures) (c .before .before .before .load2 .ensures) (c .before .load3 .ensures)
           (c .inside .ensures),

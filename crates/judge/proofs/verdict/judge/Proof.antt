@@ -2,7 +2,6 @@
 use Prim.Native.Nat.{ℕ, _≤_}
 use mathlib.Core.Path.{_≡_, sym, subst, _∙_}
 use mathlib.Core.List.{List, [], _∷_}
-use native.Mathlib.Omega.{arith}
 use borrow.Author.Needs.{needs}
 use lib.IntN.{ℤ}
 use lib.ListN.{length}

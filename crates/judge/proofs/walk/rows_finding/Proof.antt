@@ -141,8 +141,7 @@ load-requires-3 c κs =
 common-requires : tie.Need-common-requires Inv-loop μ-loop Inv-rows μ-rows
 common-requires c κs =
     let k = c .before in
-    let i = k .before .rows .inv in
-    (
+    let i = k .before .rows .inv in (
       tightens-fewer 1 2 _ (omega arith) (i .tightens),
       rw (c .load3 .ensures) (tightens-fewer 1 2 _ (omega arith) (row-asked _ _ _ _ _ i (k .rows-test .taken) .guard)),
     )
