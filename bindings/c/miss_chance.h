@@ -68,7 +68,7 @@ enum miss_chance_number {
     MISS_CHANCE_BAD_TARGET_VALUE = 15, /* a target's value is not V; place: its 9 word */
     MISS_CHANCE_NOT_BLOCKED = 16,      /* a row said to be blocked is not; place: its A word */
     MISS_CHANCE_WRONG_LOCATION = 17,   /* a successor has another location than the edge; place: its B word */
-    MISS_CHANCE_NOT_INSIDE = 18,       /* a landing inside the edge's invariant is not inside the successor's zone; place: its B word */
+    MISS_CHANCE_NOT_INSIDE = 18,       /* a landing inside its location's invariant is not inside the successor's zone; place: its B word */
     MISS_CHANCE_SUM_TOO_LARGE = 19,    /* the weighted sum is too large for the node's value; place: the row's first B word */
     MISS_CHANCE_WRONG_START = 20,      /* the start node has another location than the start; place: the C word */
     MISS_CHANCE_START_NOT_INSIDE = 21, /* the start valuations are not inside the start node's zone; place: the C word */

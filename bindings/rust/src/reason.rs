@@ -45,7 +45,7 @@ reasons! {
     BadTargetValue = 15: "a target's value is not V", "its 9 word";
     NotBlocked = 16: "a row said to be blocked is not", "its A word";
     WrongLocation = 17: "a successor has another location than the edge", "its B word";
-    NotInside = 18: "a landing inside the edge's invariant is not inside the successor's zone", "its B word";
+    NotInside = 18: "a landing inside its location's invariant is not inside the successor's zone", "its B word";
     SumTooLarge = 19: "the weighted sum is too large for the node's value", "the row's first B word";
     WrongStart = 20: "the start node has another location than the start", "the C word";
     StartNotInside = 21: "the start valuations are not inside the start node's zone", "the C word";

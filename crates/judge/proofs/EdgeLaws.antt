@@ -57,7 +57,7 @@ pub record Reached (M : Model) (N : Node) (A : Action) (z : Square) : Type 0 whe
 
 module _ (M : Model) (words : List ℕ) (m : ModelKept) (t : TableRead) (k : Kept) (x : Indexed M m) (good : GoodModel M) (W : Table)
     (i : TableIndexed W t k) (sh : Shaped M words W) where
-  -- of each node, whether its zone lies within the invariant of its location
+  -- of each node, whether its zone lies within the invariant of its location by its bounds
   abbrev pub contained : List Bool
   contained = containedBelow k (m .zones) (t .count)
 

@@ -1,4 +1,5 @@
--- Which nodes have zones within their invariants, as the code keeps it; and what the code works out of an edge, step by step. Assumes nothing.
+-- Which nodes have zones within their invariants by their bounds, as the code keeps it; and what the code works out of an edge, step by step. Assumes
+-- nothing.
 use Prim.Native.Nat.{ℕ, zero, suc, _+_, _≤_, _<_}
 use mathlib.Core.Path.{_≡_, _∙_}
 use mathlib.Core.Logic.{_⊎_, inl, inr}
@@ -24,7 +25,7 @@ use Rattle.judge.specs.Landing.{added, failed, landingsOutcome, successo
 use Rattle.judge.specs.declared.findings.Finding.the-variants as finding
 use Rattle.judge.specs.declared.landing.Outcome.{Outcome}
 
--- ---- of each node, whether its zone lies within the invariant of its location
+-- ---- of each node, whether its zone lies within the invariant of its location by its bounds
 
 module _ (k : Kept) (zs : List ℤ) where
   abbrev contained? : ℕ → Bool

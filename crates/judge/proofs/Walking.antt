@@ -82,7 +82,7 @@ rows-split A As at ws = by (isTable blocked (getD ws 0 0))
 
 module _ (M : Model) (words : List ℕ) (m : ModelKept) (t : TableRead) (k : Kept) (x : Indexed M m) (good : GoodModel M) (formed : WellFormed M)
     (W : Table) (i : TableIndexed W t k) (sh : Shaped M words W) where
-  -- of each node, whether its zone lies within the invariant of its location
+  -- of each node, whether its zone lies within the invariant of its location by its bounds
   abbrev contained : List Bool
   contained = containedBelow k (m .zones) (t .count)
 

@@ -25,8 +25,8 @@ added w x = record { finding = finding.None; share = weightOf w * x }
 unfoldable pub failed : Finding → Outcome
 failed f = record { finding = f; share = 0 }
 
--- 18 and the sum: the edge of the word w lands at its location's invariant i, its landings y are some, and its successor has the zone z and the
--- value x. `contained` says whether that zone lies within i, and V is `whole`
+-- 18 and the sum: the edge of the word w leads to a location with the invariant i; y, its landings, is not empty; its successor has the zone z and
+-- the value x. `contained` says whether that zone is within i by its bounds, and V is `whole`
 unfoldable pub landingsOutcome : ℕ → Square → Square → Square → Bool → ℕ → ℕ → ℕ → Outcome
 landingsOutcome w y i z contained x whole p =
     cond (contained && inside? y z) (added w x)

@@ -19,7 +19,8 @@ common y z = tightened (met y z)
 unfoldable pub waitedSquare : Square → Square → Square
 waitedSquare y i = met (delayedSquare (common y i)) i
 
--- ---- the nodes whose zones lie within the invariants of their locations; zs are the keys of the model's zones
+-- ---- the nodes whose bounds, not tightened, are within those of their location's invariant, cell by cell: then the zone lies within it; the other way
+-- round is not claimed. zs are the keys of the model's zones
 
 -- of each of the first n of 64 nodes
 unfoldable pub containedBelow : Kept → List ℤ → ℕ → List Bool

@@ -28,7 +28,7 @@ use Rattle.judge.specs.declared.findings.Finding.the-variants as finding
 use Rattle.judge.specs.declared.landing.Outcome.{Outcome}
 
 -- the table's words and its V, what is kept of the model, and of the table, with which of its nodes have zones
--- within their invariants
+-- within their invariants by their bounds
 module _ (words : List ℕ) (whole : ℕ) (m : ModelKept) (contained : List Bool) (k : TableKept) where
   -- n successors from the edge e and the place `at` on, with the sum so far; `first` is the place of the row's first word
   unfoldable pub successorsFrom : Square → Bool → ℕ → ℕ → ℕ → ℕ → ℕ → ℕ → Finding

@@ -42,7 +42,8 @@ pub(crate) fn fails(finding: Finding) -> Outcome
 
 // What the successor of an edge comes to, the node s, at a place. An edge that can land outside the invariant of its location has V, `whole`, in
 // the sum, and its successor need hold only the landings inside. `invariants` has those of the model, `contained` says which nodes have zones within
-// theirs, and `empty` whether the reach is. Most edges need the first comparison alone, so the landings are not kept for the others.
+// theirs by their bounds, and `empty` whether the reach is. Most edges need the first comparison alone; the others reset the reach again, since to
+// keep the landings for them slows all (docs/DECISIONS.md).
 pub(crate) fn successor(
     reach: Zone,
     empty: bool,

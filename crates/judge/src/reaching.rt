@@ -1,4 +1,4 @@
-// The zones of a row's reach, and which nodes have zones within their invariants.
+// The zones of a row's reach, and which nodes have zones within their invariants by the bounds as they stand.
 ghost use mathlib.Core.Path.{_≡_};
 ghost use Rattle.zone.specs.Squares.{Tightens};
 ghost use Rattle.table.specs.Index.{keep};
@@ -23,7 +23,9 @@ pub(crate) fn waited(zone: Zone, invariant: Zone) -> Zone
     common(zone, invariant).delay().meet(invariant)
 }
 
-// Of each of so many nodes, whether its zone lies within the invariant of its location. What lands in such a zone cannot land outside.
+// Of each of so many nodes, whether its bounds, as its words give them, are within those of its location's invariant, pair by pair. What lands in such
+// a zone cannot land outside. The zone is not tightened for this: one that lies within by a chain of bounds alone is answered no, and the edges that
+// lead to it are asked one by one (`landing::successor`).
 pub(crate) fn contained(
     nodes: &[usize],
     zones: &[i32],

@@ -18,8 +18,8 @@ use zone::words;
 use zone::zones::Zone;
 
 // Judges the rows of a node, numbered n, row by row and successor by successor. The first check that fails leaves both loops, with its place.
-// `guards` has the zones of the model, invariants and guards; `contained` says which nodes have zones within their invariants, and V is
-// `whole`.
+// `guards` has the zones of the model, invariants and guards; `contained` says which nodes have zones within their invariants
+// by their bounds, and V is `whole`.
 pub(crate) fn rows_finding(
     list: &[u32],
     index: Index,

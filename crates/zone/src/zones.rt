@@ -169,7 +169,7 @@ impl Zone {
         empty
     }
 
-    // Of a tightened zone that is not empty: it lies inside the other.
+    // Of a tightened zone that is not empty: it lies inside the other. Of any other zone a yes is right, and a no tells nothing.
     pub fn inside(self, other: Zone) -> bool
         ensures { λ r. ⌜ r ≡ inside? self other ⌝ }
     {
