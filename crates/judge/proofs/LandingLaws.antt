@@ -86,19 +86,20 @@ module _ (reach : Square) (empty : Bool) (w : ℕ) (zs : List ℤ) (contained : 
 
       -- the invariant i that the edge lands at, where that does not settle it
       module _ (un : (getD contained s false && inside? y z) ≡ false) {i : Square} (ei : i ≡ zoneAt zs (landsAt w)) where
-        pub all-held : inside? y i ≡ true → inside? y z ≡ true → added w (N .value) ≡ goal
+        -- every landing is inside: by whether the zone holds them
+        pub inside-by : inside? y i ≡ true → {held : Bool} → held ≡ inside? y z →
+            (held ≡ true → added w (N .value) ≡ goal) × (held ≡ false → failed (finding.NotInside p) ≡ goal)
         unfolding successorOutcome landingsOutcome
-        all-held l h = rw (← eN, eq-eqb _ _ at, filled, ← ey, ← ez, un, ← ei, l, h)
+        inside-by l eh = (
+          (λ h. rw (← eN, eq-eqb _ _ at, filled, ← ey, ← ez, un, ← ei, l, ← eh, h)),
+          λ h. rw (← eN, eq-eqb _ _ at, filled, ← ey, ← ez, un, ← ei, l, ← eh, h),
+        )
 
-        pub not-held : inside? y i ≡ true → inside? y z ≡ false → failed (finding.NotInside p) ≡ goal
+        -- some landing is outside: by whether the zone holds the part inside
+        pub part-by : inside? y i ≡ false → {part : Square} → part ≡ common y i → {held : Bool} → held ≡ (empty? part || inside? part z) →
+            (held ≡ true → added w whole ≡ goal) × (held ≡ false → failed (finding.NotInside p) ≡ goal)
         unfolding successorOutcome landingsOutcome
-        not-held l h = rw (← eN, eq-eqb _ _ at, filled, ← ey, ← ez, un, ← ei, l, h)
-
-        pub part-held : inside? y i ≡ false → {part : Square} → part ≡ common y i → (empty? part || inside? part z) ≡ true → added w whole ≡ goal
-        unfolding successorOutcome landingsOutcome
-        part-held l ep h = rw (← eN, eq-eqb _ _ at, filled, ← ey, ← ez, un, ← ei, l, ← ep, h)
-
-        pub part-not-held : inside? y i ≡ false → {part : Square} → part ≡ common y i → (empty? part || inside? part z) ≡ false →
-            failed (finding.NotInside p) ≡ goal
-        unfolding successorOutcome landingsOutcome
-        part-not-held l ep h = rw (← eN, eq-eqb _ _ at, filled, ← ey, ← ez, un, ← ei, l, ← ep, h)
+        part-by l ep eh = (
+          (λ h. rw (← eN, eq-eqb _ _ at, filled, ← ey, ← ez, un, ← ei, l, ← ep, ← eh, h)),
+          λ h. rw (← eN, eq-eqb _ _ at, filled, ← ey, ← ez, un, ← ei, l, ← ep, ← eh, h),
+        )

@@ -2,7 +2,7 @@
 -- and holds the landings, whether every landing is inside, and whether that zone holds those that are.
 use mathlib.Core.Path.{_≡_, refl, sym, ap₂, _∙_}
 use mathlib.Core.Logic.{⊎-elim}
-use mathlib.Core.Bool.{false, _&&_, _||_}
+use mathlib.Core.Bool.{true, false, _&&_, _||_}
 use native.Mathlib.Omega.{arith}
 use borrow.Author.Needs.{needs}
 use lib.ListN.{getD}
@@ -10,8 +10,12 @@ use Rattle.zone.specs.Squares.{resetSquare, empty?, inside?}
 use Rattle.zone.specs.Stores.{zoneAt}
 use Rattle.zone.specs.declared.zones.Zone.{Zone as Square}
 use Rattle.model.specs.Fields.{maskOf, landsAt}
+use Rattle.table.specs.Index.{keep}
+use Rattle.judge.specs.Landing.{added, failed, successorOutcome}
+use Rattle.judge.specs.declared.findings.Finding.the-variants as finding
+use Rattle.judge.specs.declared.landing.Outcome.{Outcome}
 use Rattle.judge.proofs.ReachSizes.{reset-tightens}
-use Rattle.judge.proofs.LandingLaws.{by-flag, by-zone, wrong-location, nothing-lands, held-within, all-held, not-held, part-held, part-not-held}
+use Rattle.judge.proofs.LandingLaws.{by-flag, by-zone, wrong-location, nothing-lands, held-within, inside-by, part-by}
 use Rattle.judge.proofs.landing.successor.Statement.{statement}
 use Rattle.judge.proofs.landing.successor.Tie as tie
 
@@ -63,6 +67,36 @@ part-test : (c : tie.After-inside4) →
     (empty? part || inside? part (zone (masked (c .before .before .before .before .before .before .before))))
 part-test c = rw (← c .before .load5 .ensures) (ap₂ _||_ (c .before .before .is-empty .ensures) (c .inside4 .ensures))
 
+-- what is to be returned
+abbrev goal : tie.Start → Outcome
+goal s =
+    successorOutcome (s .args .reach) (s .args .empty) (s .args .edge) (s .args .invariants .now) (s .args .t5) (s .args .whole)
+    (keep (s .args .nodes .now) (s .args .zones .now)) (s .args .s) (s .args .place)
+
+-- by the last test, where every landing is inside and where one is outside
+inside-settled : (c : tie.After-inside3) → let m = masked (c .before .before .before .before .before) in
+    (c .inside3 .result ≡ true → added (start m .args .edge) (passed m .before .before .before .load .result .value) ≡ goal (start m)) ×
+    (c .inside3 .result ≡ false → failed (finding.NotInside (start m .args .place)) ≡ goal (start m))
+inside-settled c =
+    let load = c .before .before .before .before in
+    let reset = load .before in
+    let m = masked reset in
+    inside-by _ _ _ _ _ _ _ _ _ (passed m .before .before .before .load .ensures) (at (passed m)) (m .before .if2 .left) (landings-are reset) refl
+    (unsettled reset) (invariant-is load) (sym (c .before .before .before .inside2 .ensures) ∙ c .before .before .if5 .taken) (zone-test c)
+
+part-settled : (c : tie.After-inside4) → let m = masked (c .before .before .before .before .before .before .before) in
+    let held = c .before .before .is-empty .result || c .inside4 .result in
+    (held ≡ true → added (start m .args .edge) (start m .args .whole) ≡ goal (start m)) ×
+    (held ≡ false → failed (finding.NotInside (start m .args .place)) ≡ goal (start m))
+part-settled c =
+    let common = c .before .before .before in
+    let load = common .before .before .before in
+    let reset = load .before in
+    let m = masked reset in
+    part-by _ _ _ _ _ _ _ _ _ (passed m .before .before .before .load .ensures) (at (passed m)) (m .before .if2 .left) (landings-are reset) refl
+    (unsettled reset) (invariant-is load) (sym (common .before .before .inside2 .ensures) ∙ common .before .if5 .left) (common .common .ensures)
+    (part-test c)
+
 -- ---- the needs
 
 returns : tie.Need-returns
@@ -108,30 +142,10 @@ load-requires-4 : tie.Need-load-requires-4
 load-requires-4 c κs = start (masked (c .before .before .before)) .pre .zone
 
 returns-4 : tie.Need-returns-4
-returns-4 c =
-    let inside = c .before .before in
-    let load = inside .before .before .before .before in
-    let reset = load .before in
-    let m = masked reset in (
-      c .adds3 .ensures .0
-          ∙ all-held _ _ _ _ _ _ _ _ _ (passed m .before .before .before .load .ensures) (at (passed m)) (m .before .if2 .left) (landings-are reset)
-          refl (unsettled reset) (invariant-is load) (sym (inside .before .before .before .inside2 .ensures) ∙ inside .before .before .if5 .taken)
-          (sym (zone-test inside) ∙ c .before .if6 .taken),
-      c .adds3 .ensures .1,
-    )
+returns-4 c = (c .adds3 .ensures .0 ∙ inside-settled (c .before .before) .0 (c .before .if6 .taken), c .adds3 .ensures .1)
 
 returns-5 : tie.Need-returns-5
-returns-5 c =
-    let inside = c .before .before in
-    let load = inside .before .before .before .before in
-    let reset = load .before in
-    let m = masked reset in (
-      c .fails2 .ensures .0
-          ∙ not-held _ _ _ _ _ _ _ _ _ (passed m .before .before .before .load .ensures) (at (passed m)) (m .before .if2 .left) (landings-are reset)
-          refl (unsettled reset) (invariant-is load) (sym (inside .before .before .before .inside2 .ensures) ∙ inside .before .before .if5 .taken)
-          (sym (zone-test inside) ∙ c .before .if6 .left),
-      c .fails2 .ensures .1,
-    )
+returns-5 c = (c .fails2 .ensures .0 ∙ inside-settled (c .before .before) .1 (c .before .if6 .left), c .fails2 .ensures .1)
 
 common-requires : tie.Need-common-requires
 common-requires c κs =
@@ -143,32 +157,10 @@ load-requires-5 : tie.Need-load-requires-5
 load-requires-5 c κs = start (masked (c .before .before .before .before .before)) .pre .zone
 
 returns-6 : tie.Need-returns-6
-returns-6 c =
-    let inside = c .before .before in
-    let common = inside .before .before .before in
-    let load = common .before .before .before in
-    let reset = load .before in
-    let m = masked reset in (
-      c .adds4 .ensures .0
-          ∙ part-held _ _ _ _ _ _ _ _ _ (passed m .before .before .before .load .ensures) (at (passed m)) (m .before .if2 .left) (landings-are reset)
-          refl (unsettled reset) (invariant-is load) (sym (common .before .before .inside2 .ensures) ∙ common .before .if5 .left)
-          (common .common .ensures) (sym (part-test inside) ∙ c .before .if7 .taken),
-      c .adds4 .ensures .1,
-    )
+returns-6 c = (c .adds4 .ensures .0 ∙ part-settled (c .before .before) .0 (c .before .if7 .taken), c .adds4 .ensures .1)
 
 returns-7 : tie.Need-returns-7
-returns-7 c =
-    let inside = c .before .before in
-    let common = inside .before .before .before in
-    let load = common .before .before .before in
-    let reset = load .before in
-    let m = masked reset in (
-      c .fails3 .ensures .0
-          ∙ part-not-held _ _ _ _ _ _ _ _ _ (passed m .before .before .before .load .ensures) (at (passed m)) (m .before .if2 .left) (landings-are reset)
-          refl (unsettled reset) (invariant-is load) (sym (common .before .before .inside2 .ensures) ∙ common .before .if5 .left)
-          (common .common .ensures) (sym (part-test inside) ∙ c .before .if7 .left),
-      c .fails3 .ensures .1,
-    )
+returns-7 c = (c .fails3 .ensures .0 ∙ part-settled (c .before .before) .1 (c .before .if7 .left), c .fails3 .ensures .1)
 
 pub successor-spec : {M : Type 1} → statement M
 successor-spec =
