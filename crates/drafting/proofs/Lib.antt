@@ -1,1 +1,2 @@
 -- The theorems about drafts.
+pub mod BoundingLaws
