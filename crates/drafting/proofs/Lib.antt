@@ -1,2 +1,3 @@
 -- The theorems about drafts.
 pub mod BoundingLaws
+pub mod WordBack
