@@ -1,3 +1,4 @@
 -- The theorems about drafts.
 pub mod BoundingLaws
 pub mod WordBack
+pub mod ReadBack

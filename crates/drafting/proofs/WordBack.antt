@@ -57,7 +57,8 @@ fields i j t n hi hj e ht hn = record {
   number = omega arith;
 }
 
-bit-fields : (s : Bool) (i j n : ℕ) → i < 16 → j < 16 → n < 8192 → Fields (5 * 2 ^ 28 + (i * 2 ^ 24 + j * 2 ^ 20 + cond s (2 ^ 19) 0 + n)) i j (cond s (2 ^ 19) 0) n
+bit-fields : (s : Bool) (i j n : ℕ) → i < 16 → j < 16 → n < 8192 →
+    Fields (5 * 2 ^ 28 + (i * 2 ^ 24 + j * 2 ^ 20 + cond s (2 ^ 19) 0 + n)) i j (cond s (2 ^ 19) 0) n
 bit-fields true i j n hi hj hn = fields i j (2 ^ 19) n hi hj (omega arith) (omega arith) hn
 bit-fields false i j n hi hj hn = fields i j 0 n hi hj (omega arith) (omega arith) hn
 
@@ -109,7 +110,8 @@ unfolding zoneOf
 zone-back C few [] h = refl
 zone-back C few (b ∷ Z) h = cons (bound-back C few b (h .0)) (zone-back C few Z (h .1))
   where
-    cons : boundOf (boundWord b) ≡ b → zoneOf (map boundWord Z) ≡ Z → _≡_ {A = Zone} (boundOf (boundWord b) ∷ zoneOf (map boundWord Z)) (b ∷ Z)
+    cons : boundOf (boundWord b) ≡ b → zoneOf (map boundWord Z) ≡ Z →
+        _≡_ {A = Zone} (boundOf (boundWord b) ∷ zoneOf (map boundWord Z)) (b ∷ Z)
     cons e f = rw (e, f)
 
 -- ---- the other words

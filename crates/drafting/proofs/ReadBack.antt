@@ -1,0 +1,323 @@
+-- The words of a draft hold the table that was drafted. Assumes nothing.
+use Prim.Native.Nat.{ℕ, suc, _+_, _*_, _^_, _≤_, _<_}
+use mathlib.Core.Path.{_≡_, refl, sym, ap, _∙_}
+use mathlib.Core.Bool.{false}
+use mathlib.Core.List.{List, [], _∷_, _++_, map, append-assoc}
+use native.Mathlib.Nat as N
+use native.Mathlib.Omega.{arith}
+use borrow.Author.Tests.{eq-eqb}
+use lib.Dec.{eqb}
+use lib.ListN.{getD, length, drop, length-map}
+use lib.Seq.{drop-append-seam, drop-at, getD-append-seam}
+use Rattle.zone.specs.Scale.{Zone}
+use Rattle.zone.specs.Words.{kind}
+use Rattle.model.specs.TableKinds.{TableKind, node, nodeBound, startNode, cut, tableNumber, isTable}
+use Rattle.model.specs.Before.{indexOf}
+use Rattle.model.specs.Model.{Action, Location, Model}
+use Rattle.model.specs.States.{locationAt}
+use Rattle.table.specs.Fields.{wholeOf, locationOf, valueOf, numberOf}
+use Rattle.table.specs.Table.{Successor, Row, blockedRow, successorRow, Body, rowsBody, Node, Table}
+use Rattle.table.specs.Table.{successorsOf, rowsOf, leadingBounds, rowActions, bodyOf, nodeOf, nodesOf, tableOf}
+use Rattle.drafting.specs.Exploring.{Found, FoundRow, blocked, toNodes}
+use Rattle.drafting.specs.Words.{whole, word, boundWord, frontWords, rowWords, rowsWords, nodeWords, nodesWords, wordsOf}
+use Rattle.drafting.proofs.WordBack.{AllFit, bound-kind, zone-back, word-kind, word-fields, word-location, word-number}
+
+-- ---- the table that was drafted, with the places of its words
+
+abbrev pub successorsAt : ℕ → List ℕ → List Successor
+successorsAt p [] = []
+successorsAt p (n ∷ ns) = record { node = n; place = p } ∷ successorsAt (suc p) ns
+
+abbrev pub rowsAt : ℕ → List FoundRow → List Row
+rowsAt p [] = []
+rowsAt p (blocked ∷ rs) = blockedRow p ∷ rowsAt (suc p) rs
+rowsAt p (toNodes ns ∷ rs) = successorRow p (successorsAt p ns) ∷ rowsAt (p + length ns) rs
+
+abbrev pub nodeAtPlace : ℕ → Found → ℕ → List FoundRow → Node
+nodeAtPlace p F v rs =
+    record {
+      location = F .location;
+      zone = F .zone;
+      value = v;
+      place = suc p + length (F .zone);
+      body = rowsBody (rowsAt (suc (suc p + length (F .zone))) rs);
+    }
+
+abbrev pub nodesAt : ℕ → List Found → List ℕ → List (List FoundRow) → List Node
+nodesAt p [] vs rows = []
+nodesAt p (F ∷ Fs) [] rows = []
+nodesAt p (F ∷ Fs) (v ∷ vs) [] = []
+nodesAt p (F ∷ Fs) (v ∷ vs) (rs ∷ rows) = nodeAtPlace p F v rs ∷ nodesAt (p + length (nodeWords F v rs)) Fs vs rows
+
+-- ---- what words can hold: a row for each action, numbers of nodes, bounds and values in their ranges
+
+-- numbers of nodes, of which there are so many
+abbrev pub Numbers : ℕ → List ℕ → Type 0
+Numbers count [] = Unit {0}
+Numbers count (n ∷ ns) = (n < count) × Numbers count ns
+
+abbrev pub RowWritable : ℕ → Action → FoundRow → Type 0
+RowWritable count A blocked = Unit {0}
+RowWritable count A (toNodes ns) = (1 ≤ length ns) × (length ns ≡ length (A .edges)) × Numbers count ns
+
+abbrev pub RowsWritable : ℕ → List Action → List FoundRow → Type 0
+RowsWritable count [] [] = Unit {0}
+RowsWritable count [] (r ∷ rs) = ⊥
+RowsWritable count (A ∷ As) [] = ⊥
+RowsWritable count (A ∷ As) (r ∷ rs) = RowWritable count A r × RowsWritable count As rs
+
+pub record NodeFit (M : Model) (count : ℕ) (F : Found) (v : ℕ) (rs : List FoundRow) : Type 0 where
+  pub location : F .location < length (M .locations)
+  pub zone : AllFit (M .clocks) (F .zone)
+  pub value : v ≤ whole
+  pub rows : RowsWritable count (rowActions (locationAt M (F .location))) rs
+
+abbrev pub NodesFit : Model → ℕ → List Found → List ℕ → List (List FoundRow) → Type 0
+NodesFit M count [] [] [] = Unit {0}
+NodesFit M count [] [] (rs ∷ rows) = ⊥
+NodesFit M count [] (v ∷ vs) rows = ⊥
+NodesFit M count (F ∷ Fs) [] rows = ⊥
+NodesFit M count (F ∷ Fs) (v ∷ vs) [] = ⊥
+NodesFit M count (F ∷ Fs) (v ∷ vs) (rs ∷ rows) = NodeFit M count F v rs × NodesFit M count Fs vs rows
+
+-- ---- reading back
+module _ (count : ℕ) (few : count ≤ 64) where
+  successor-kind : (n : ℕ) → n < count → kind (word 11 n) ≡ 11
+  successor-kind n h = word-kind n 11 (omega arith) (omega arith)
+
+  successors-back : (p : ℕ) (ns : List ℕ) (rest : List ℕ) → Numbers count ns →
+      successorsOf (length ns) p (map (word 11) ns ++ rest) ≡ successorsAt p ns
+  unfolding successorsOf
+  successors-back p [] rest h = refl
+  successors-back p (n ∷ ns) rest h = cons (word-number n 11 (let l = h .0 in omega arith) .0) (successors-back (suc p) ns rest (h .1))
+    where
+      cons : numberOf (word 11 n) ≡ n → successorsOf (length ns) (suc p) (map (word 11) ns ++ rest) ≡ successorsAt (suc p) ns →
+          _≡_ {A = List Successor}
+          (record { node = numberOf (word 11 n); place = p } ∷ successorsOf (length ns) (suc p) (map (word 11) ns ++ rest))
+          (record { node = n; place = p } ∷ successorsAt (suc p) ns)
+      cons e f = rw (e, f)
+
+  rows-back : (p : ℕ) (As : List Action) (rs : List FoundRow) (rest : List ℕ) → RowsWritable count As rs →
+      rowsOf As p (rowsWords rs ++ rest) ≡ rowsAt p rs
+  unfolding rowsOf rowsWords rowWords
+  rows-back p [] [] rest h = refl
+  rows-back p [] (r ∷ rs) rest h = absurd h
+  rows-back p (A ∷ As) [] rest h = absurd h
+  rows-back p (A ∷ As) (blocked ∷ rs) rest h = ap (λ (xs : List Row). blockedRow p ∷ xs) (rows-back (suc p) As rs rest (h .1))
+  rows-back p (A ∷ As) (toNodes [] ∷ rs) rest h = absurd (N.not-suc-le-zero (h .0 .0))
+  rows-back p (A ∷ As) (toNodes (n ∷ ns) ∷ rs) rest h =
+      rw (successor-kind n (h .0 .2 .0), ← h .0 .1)
+      (cons (ap (successorsOf (suc (length ns)) p) split ∙ successors-back p (n ∷ ns) (rowsWords rs ++ rest) (h .0 .2))
+      (ap (rowsOf As (p + suc (length ns))) (ap (drop (suc (length ns))) split ∙ behind)
+      ∙ rows-back (p + suc (length ns)) As rs rest (h .1)))
+    where
+      ws : List ℕ
+      ws = map (word 11) (n ∷ ns)
+
+      split : (ws ++ rowsWords rs) ++ rest ≡ ws ++ (rowsWords rs ++ rest)
+      split = append-assoc ws (rowsWords rs) rest
+
+      behind : drop (suc (length ns)) (ws ++ (rowsWords rs ++ rest)) ≡ rowsWords rs ++ rest
+      behind = drop-at ws (rowsWords rs ++ rest) (suc (length ns)) (length-map (n ∷ ns) (word 11))
+
+      cons : {ss ts : List Successor} {xs ys : List Row} → ss ≡ ts → xs ≡ ys →
+          _≡_ {A = List Row} (successorRow p ss ∷ xs) (successorRow p ts ∷ ys)
+      cons e f = rw (e, f)
+
+-- the bounds at the front
+leading-back : (C : ℕ) → C ≤ 4 → (Z : Zone) → AllFit C Z → (w : ℕ) (rest : List ℕ) → isTable nodeBound w ≡ false →
+    leadingBounds (map boundWord Z ++ (w ∷ rest)) ≡ map boundWord Z
+unfolding leadingBounds
+leading-back C few [] h w rest e = rw e
+leading-back C few (b ∷ Z) h w rest e =
+    rw (bound-kind C few b (h .0)) (ap (λ (xs : List ℕ). boundWord b ∷ xs) (leading-back C few Z (h .1) w rest e))
+
+-- no word of a kind
+abbrev NoKind : TableKind → List ℕ → Type 0
+NoKind k [] = Unit {0}
+NoKind k (w ∷ ws) = (isTable k w ≡ false) × NoKind k ws
+
+no-kind-join : (k : TableKind) (xs ys : List ℕ) → NoKind k xs → NoKind k ys → NoKind k (xs ++ ys)
+no-kind-join k [] ys g h = h
+no-kind-join k (x ∷ xs) ys g h = (g .0, no-kind-join k xs ys (g .1) h)
+
+-- the first word, or 0 where there is none
+first-none : (k : TableKind) (ws : List ℕ) → isTable k 0 ≡ false → NoKind k ws → isTable k (getD ws 0 0) ≡ false
+first-none k [] e h = e
+first-none k (w ∷ ws) e h = h .0
+
+-- words that are no nodes are passed over
+passed-over : (M : Model) (p : ℕ) (xs ys : List ℕ) → NoKind node xs → nodesOf M p (xs ++ ys) ≡ nodesOf M (p + length xs) ys
+unfolding nodesOf
+passed-over M p [] ys h = ap (λ (q : ℕ). nodesOf M q ys) (sym (N.add-zero p))
+passed-over M p (x ∷ xs) ys h =
+    let e : suc p + length xs ≡ p + suc (length xs) = omega arith in
+    rw (h .0) (passed-over M (suc p) xs ys (h .1) ∙ ap (λ (q : ℕ). nodesOf M q ys) e)
+
+index-over : (k : TableKind) (xs : List ℕ) (w : ℕ) (ys : List ℕ) → NoKind k xs → kind w ≡ tableNumber k →
+    indexOf (tableNumber k) (xs ++ (w ∷ ys)) ≡ length xs
+unfolding indexOf
+index-over k [] w ys h e = rw (eq-eqb (kind w) (tableNumber k) e)
+index-over k (x ∷ xs) w ys h e = rw (h .0) (ap suc (index-over k xs w ys (h .1) e))
+
+-- a kind that no bound, value or word of a row has
+record Outer (k : TableKind) : Type 0 where
+  bound : eqb 5 (tableNumber k) ≡ false
+  value : eqb 9 (tableNumber k) ≡ false
+  blocked : eqb 10 (tableNumber k) ≡ false
+  successor : eqb 11 (tableNumber k) ≡ false
+
+-- the number of a word's kind, in a test for the kind k
+not-of : (k : TableKind) (w n : ℕ) → kind w ≡ n → eqb n (tableNumber k) ≡ false → isTable k w ≡ false
+not-of k w n e f = rw e f
+
+outer-node : Outer node
+outer-node = record { bound = refl; value = refl; blocked = refl; successor = refl }
+
+outer-start : Outer startNode
+outer-start = record { bound = refl; value = refl; blocked = refl; successor = refl }
+
+outer-cut : Outer cut
+outer-cut = record { bound = refl; value = refl; blocked = refl; successor = refl }
+
+bounds-none : (k : TableKind) → Outer k → (C : ℕ) → C ≤ 4 → (Z : Zone) → AllFit C Z → NoKind k (map boundWord Z)
+bounds-none k o C few [] h = tt
+bounds-none k o C few (b ∷ Z) h = (not-of k (boundWord b) 5 (bound-kind C few b (h .0)) (o .bound), bounds-none k o C few Z (h .1))
+
+module _ (count : ℕ) (few : count ≤ 64) where
+  numbers-none : (k : TableKind) → Outer k → (ns : List ℕ) → Numbers count ns → NoKind k (map (word 11) ns)
+  numbers-none k o [] h = tt
+  numbers-none k o (n ∷ ns) h = (not-of k (word 11 n) 11 (successor-kind count few n (h .0)) (o .successor), numbers-none k o ns (h .1))
+
+  rows-none : (k : TableKind) → Outer k → (As : List Action) (rs : List FoundRow) → RowsWritable count As rs → NoKind k (rowsWords rs)
+  unfolding rowsWords rowWords
+  rows-none k o [] [] h = tt
+  rows-none k o [] (r ∷ rs) h = absurd h
+  rows-none k o (A ∷ As) [] h = absurd h
+  rows-none k o (A ∷ As) (blocked ∷ rs) h = (o .blocked, rows-none k o As rs (h .1))
+  rows-none k o (A ∷ As) (toNodes ns ∷ rs) h =
+      no-kind-join k (map (word 11) ns) (rowsWords rs) (numbers-none k o ns (h .0 .2)) (rows-none k o As rs (h .1))
+
+  module _ (M : Model) (clocks : M .clocks ≤ 4) (locations : length (M .locations) ≤ 16) where
+    value-kind : (v : ℕ) → v ≤ whole → kind (word 9 v) ≡ 9
+    value-kind v h = word-kind v 9 (omega arith) (omega arith)
+
+    location-back : (l : ℕ) → l < length (M .locations) → locationOf (word 8 (l * 2 ^ 24)) ≡ l
+    location-back l h = word-location l 8 (omega arith) .0
+
+    -- rows, in front of words without a cut
+    body-back : (L : Location) (p : ℕ) (rs : List FoundRow) (rest : List ℕ) → RowsWritable count (rowActions L) rs → NoKind cut rest →
+        bodyOf L p (rowsWords rs ++ rest) ≡ rowsBody (rowsAt p rs)
+    unfolding bodyOf
+    body-back L p rs rest h g =
+        rw (first-none cut (rowsWords rs ++ rest) refl (no-kind-join cut (rowsWords rs) rest (rows-none cut outer-cut (rowActions L) rs h) g))
+        (ap rowsBody (rows-back count few p (rowActions L) rs rest h))
+
+    -- a node, in front of such words
+    node-back : (p : ℕ) (F : Found) (v : ℕ) (rs : List FoundRow) (rest : List ℕ) → NodeFit M count F v rs → NoKind cut rest →
+        nodeOf M p (word 8 (F .location * 2 ^ 24)) (map boundWord (F .zone) ++ (word 9 v ∷ (rowsWords rs ++ rest))) ≡ nodeAtPlace p F v rs
+    unfolding nodeOf
+    node-back p F v rs rest h g =
+        rw (leading, behind, size, location-back (F .location) (h .location), zone-back (M .clocks) clocks (F .zone) (h .zone))
+        (made (word-fields v 9 (let l = h .value in omega arith)) (body-back (locationAt M (F .location)) _ rs rest (h .rows) g))
+      where
+        ws : List ℕ
+        ws = word 9 v ∷ (rowsWords rs ++ rest)
+
+        leading : leadingBounds (map boundWord (F .zone) ++ ws) ≡ map boundWord (F .zone)
+        leading =
+            leading-back (M .clocks) clocks (F .zone) (h .zone) (word 9 v) (rowsWords rs ++ rest)
+            (not-of nodeBound (word 9 v) 9 (value-kind v (h .value)) refl)
+
+        size : length (map boundWord (F .zone)) ≡ length (F .zone)
+        size = length-map (F .zone) boundWord
+
+        behind : drop (length (map boundWord (F .zone))) (map boundWord (F .zone) ++ ws) ≡ ws
+        behind = drop-append-seam (map boundWord (F .zone)) ws
+
+        made : valueOf (word 9 v) ≡ v → {x y : Body} → x ≡ y →
+            _≡_ {A = Node}
+            (record { location = F .location; zone = F .zone; value = valueOf (word 9 v); place = suc p + length (F .zone); body = x })
+            (record { location = F .location; zone = F .zone; value = v; place = suc p + length (F .zone); body = y })
+        made e f = rw (e, f)
+
+    node-kind : (l : ℕ) → l < length (M .locations) → kind (word 8 (l * 2 ^ 24)) ≡ 8
+    node-kind l h = omega arith
+
+    -- the words behind a node's first word
+    abbrev inner : Found → ℕ → List FoundRow → List ℕ
+    inner F v rs = map boundWord (F .zone) ++ (word 9 v ∷ rowsWords rs)
+
+    inner-none : (k : TableKind) → Outer k → (F : Found) (v : ℕ) (rs : List FoundRow) → NodeFit M count F v rs → NoKind k (inner F v rs)
+    inner-none k o F v rs h =
+        no-kind-join k (map boundWord (F .zone)) (word 9 v ∷ rowsWords rs) (bounds-none k o (M .clocks) clocks (F .zone) (h .zone)) (
+          not-of k (word 9 v) 9 (value-kind v (h .value)) (o .value),
+          rows-none k o (rowActions (locationAt M (F .location))) rs (h .rows),
+        )
+
+    one-back : (p : ℕ) (F : Found) (v : ℕ) (rs : List FoundRow) (rest : List ℕ) → NodeFit M count F v rs → NoKind cut rest →
+        nodesOf M p (nodeWords F v rs ++ rest) ≡ nodeAtPlace p F v rs ∷ nodesOf M (p + length (nodeWords F v rs)) rest
+    unfolding nodeWords frontWords nodesOf
+    one-back p F v rs rest h g =
+        rw (node-kind (F .location) (h .location))
+        (cons (ap (nodeOf M p (word 8 (F .location * 2 ^ 24))) split ∙ node-back p F v rs rest h g)
+        (passed-over M (suc p) (inner F v rs) rest (inner-none node outer-node F v rs h) ∙ ap (λ (q : ℕ). nodesOf M q rest) place))
+      where
+        split : inner F v rs ++ rest ≡ map boundWord (F .zone) ++ (word 9 v ∷ (rowsWords rs ++ rest))
+        split = append-assoc (map boundWord (F .zone)) (word 9 v ∷ rowsWords rs) rest
+
+        place : suc p + length (inner F v rs) ≡ p + suc (length (inner F v rs))
+        place = omega arith
+
+        cons : {x y : Node} {xs ys : List Node} → x ≡ y → xs ≡ ys → _≡_ {A = List Node} (x ∷ xs) (y ∷ ys)
+        cons e f = rw (e, f)
+
+    nodes-none : (k : TableKind) → Outer k → eqb 8 (tableNumber k) ≡ false → (Fs : List Found) (vs : List ℕ) (rows : List (List FoundRow)) →
+        NodesFit M count Fs vs rows → NoKind k (nodesWords Fs vs rows)
+    unfolding nodesWords nodeWords frontWords
+    nodes-none k o e [] [] [] h = tt
+    nodes-none k o e [] [] (rs ∷ rows) h = absurd h
+    nodes-none k o e [] (v ∷ vs) rows h = absurd h
+    nodes-none k o e (F ∷ Fs) [] rows h = absurd h
+    nodes-none k o e (F ∷ Fs) (v ∷ vs) [] h = absurd h
+    nodes-none k o e (F ∷ Fs) (v ∷ vs) (rs ∷ rows) h = (
+      not-of k (word 8 (F .location * 2 ^ 24)) 8 (node-kind (F .location) (h .0 .location)) e,
+      no-kind-join k (inner F v rs) (nodesWords Fs vs rows) (inner-none k o F v rs (h .0)) (nodes-none k o e Fs vs rows (h .1)),
+    )
+
+    nodes-back : (p : ℕ) (Fs : List Found) (vs : List ℕ) (rows : List (List FoundRow)) (rest : List ℕ) →
+        NodesFit M count Fs vs rows → NoKind node rest → NoKind cut rest → nodesOf M p (nodesWords Fs vs rows ++ rest) ≡ nodesAt p Fs vs rows
+    unfolding nodesWords nodesOf
+    nodes-back p [] [] [] rest h g c = over p rest g
+      where
+        over : (p : ℕ) (ys : List ℕ) → NoKind node ys → nodesOf M p ys ≡ []
+        over p [] g = refl
+        over p (y ∷ ys) g = rw (g .0) (over (suc p) ys (g .1))
+    nodes-back p [] [] (rs ∷ rows) rest h g c = absurd h
+    nodes-back p [] (v ∷ vs) rows rest h g c = absurd h
+    nodes-back p (F ∷ Fs) [] rows rest h g c = absurd h
+    nodes-back p (F ∷ Fs) (v ∷ vs) [] rest h g c = absurd h
+    nodes-back p (F ∷ Fs) (v ∷ vs) (rs ∷ rows) rest h g c =
+        ap (nodesOf M p) (append-assoc (nodeWords F v rs) (nodesWords Fs vs rows) rest)
+        ∙ one-back p F v rs (nodesWords Fs vs rows ++ rest) (h .0)
+        (no-kind-join cut (nodesWords Fs vs rows) rest (nodes-none cut outer-cut refl Fs vs rows (h .1)) c)
+        ∙ ap (λ (xs : List Node). nodeAtPlace p F v rs ∷ xs) (nodes-back (p + length (nodeWords F v rs)) Fs vs rows rest (h .1) g c)
+
+    -- the words of a draft hold its table
+    pub table-back : (Fs : List Found) (vs : List ℕ) (rows : List (List FoundRow)) → NodesFit M count Fs vs rows →
+        tableOf M (wordsOf Fs vs rows)
+        ≡ record { whole = whole; nodes = nodesAt 1 Fs vs rows; start = 0; place = suc (length (nodesWords Fs vs rows)) }
+    unfolding tableOf wordsOf nodesOf indexOf
+    table-back Fs vs rows h =
+        made (nodes-back 1 Fs vs rows (word 12 0 ∷ []) h (refl, tt) (refl, tt))
+        (index-over startNode (nodesWords Fs vs rows) (word 12 0) [] (nodes-none startNode outer-start refl Fs vs rows h) refl)
+        (getD-append-seam (nodesWords Fs vs rows) (word 12 0) [] 0)
+      where
+        ws : List ℕ
+        ws = nodesWords Fs vs rows ++ (word 12 0 ∷ [])
+
+        made : {xs ys : List Node} → xs ≡ ys → {p q : ℕ} → p ≡ q → getD ws q 0 ≡ word 12 0 →
+            _≡_ {A = Table}
+            (record { whole = wholeOf (word 7 whole); nodes = xs; start = numberOf (getD ws p 0); place = suc p })
+            (record { whole = whole; nodes = ys; start = 0; place = suc q })
+        made e f g = rw (e, f, g)
