@@ -1,4 +1,6 @@
 -- The theorems about drafts.
 pub mod BoundingLaws
 pub mod WordBack
+pub mod Shares
+pub mod RoundLaws
 pub mod ReadBack
