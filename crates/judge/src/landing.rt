@@ -17,7 +17,7 @@ pub(crate) struct Outcome {
 }
 
 // What an edge adds to its row's sum: its weight times what it has there.
-pub(crate) fn share(edge: u32, value: u32) -> u64
+pub fn share(edge: u32, value: u32) -> u64
     ensures { λ r. ⌜ (r ≡ weightOf edge * value) × (r < 2 ^ 48) ⌝ }
 {
     fields::weight_of(edge) as u64 * value as u64

@@ -7,7 +7,7 @@ use table::nodes::NodeEntry;
 use zone::zones::Zone;
 
 // What two zones have in common, tightened. With what waiting attains and the guard of an action it is the action's reach, before resets.
-pub(crate) fn common(zone: Zone, other: Zone) -> Zone
+pub fn common(zone: Zone, other: Zone) -> Zone
     requires { ⌜ Tightens 1 zone × Tightens 1 other ⌝ }
     ensures { λ r. ⌜ r ≡ common zone other ⌝ }
 {
@@ -16,7 +16,7 @@ pub(crate) fn common(zone: Zone, other: Zone) -> Zone
 
 // What waiting attains from the states in a zone, within the invariant. Invariants may be lower bounds, and a zone need not lie in its
 // invariant, so the invariant is met before the delay and after it.
-pub(crate) fn waited(zone: Zone, invariant: Zone) -> Zone
+pub fn waited(zone: Zone, invariant: Zone) -> Zone
     requires { ⌜ Tightens 1 zone × Tightens 1 invariant ⌝ }
     ensures { λ r. ⌜ r ≡ waitedSquare zone invariant ⌝ }
 {

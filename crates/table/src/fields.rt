@@ -20,7 +20,7 @@ pub(crate) fn head_fields(word: u32) -> bool
 }
 
 // The number of the location of a node word.
-pub(crate) fn location_of(word: u32) -> u32
+pub fn location_of(word: u32) -> u32
     ensures { λ r. ⌜ (r ≡ locationOf word) × (r < 16) ⌝ }
 {
     word / 0x100_0000 % 0x10

@@ -38,7 +38,7 @@ pub struct ZoneRead {
 }
 
 // Reads the words one by one, up to the first that is no good bound.
-pub(crate) fn read_zone(clocks: u32, list: &[u32]) -> ZoneRead
+pub fn read_zone(clocks: u32, list: &[u32]) -> ZoneRead
     requires { ⌜ clocks ≤ 4 ⌝ }
     ensures { λ r. ⌜ r ≡ readZone clocks (now (list .entry)) ⌝ }
 {

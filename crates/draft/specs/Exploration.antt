@@ -1,0 +1,146 @@
+-- Algorithm: exploring by square tables, front words and codes. A row has a code for each of its words: 255 for an A, and for a B the number of its node,
+-- with 64 more where its edge can land outside. Assumes nothing.
+use Prim.Native.Nat.{ℕ, zero, suc, _+_, _-_}
+use mathlib.Core.Bool.{Bool, false, not, cond}
+use mathlib.Core.List.{List, [], _∷_, _++_}
+use lib.Dec.{ltb}
+use lib.ListN.{getD, length, take, drop}
+use Rattle.zone.specs.Scale.{Zone}
+use Rattle.zone.specs.Squares.{resetSquare, empty?, inside?}
+use Rattle.zone.specs.Stores.{zoneAt}
+use Rattle.zone.specs.Reading.{readZone}
+use Rattle.zone.specs.Checks.{Answer, refused, accepted}
+use Rattle.zone.specs.declared.zones.Zone.{Zone as Square}
+use Rattle.model.specs.Fields.{maskOf, landsAt}
+use Rattle.model.specs.Scan.{guardsAt}
+use Rattle.model.specs.Index.{Kept}
+use Rattle.model.specs.declared.index.Index.{Index}
+use Rattle.table.specs.Fields.{locationOf}
+use Rattle.table.specs.Scan.{edgesAt}
+use Rattle.judge.specs.Reaching.{common, waitedSquare}
+use Rattle.drafting.specs.Exploring.{narrow?}
+use Rattle.drafting.specs.Words.{frontWords}
+use Rattle.draft.specs.Fronts.{zoneFrom}
+use Rattle.draft.specs.Nodes.{Placing, placedIn, frontsOf}
+use Rattle.draft.specs.declared.nodes.Stop.{Stop}
+use Rattle.draft.specs.declared.nodes.Stop.the-variants as stop
+use Rattle.draft.specs.declared.explore.Extent.{Extent}
+
+-- what is found so far: the front words of each node, and the codes of the rows; and why exploring has ended, if it has
+pub record Drawing : Type 0 where
+  pub stop : Stop
+  pub fronts : List (List ℕ)
+  pub codes : List ℕ
+
+abbrev pub drawing : Stop → List (List ℕ) → List ℕ → Drawing
+drawing s fs cs = record { stop = s; fronts = fs; codes = cs }
+
+-- what the stores hold, as far as they are used
+abbrev pub drawingOf : Extent → List ℕ → List ℕ → Drawing
+drawingOf x nodes codes = drawing (x .stop) (frontsOf nodes (x .nodes)) (take (x .codes) codes)
+
+-- a code more
+abbrev pub withCode : ℕ → Drawing → Drawing
+withCode c d = drawing stop.None (d .fronts) (d .codes ++ (c ∷ []))
+
+-- goes on, unless exploring has ended
+unfoldable pub goOnBy : Stop → Drawing → Drawing → Drawing
+goOnBy stop.None ended next = next
+goOnBy stop.Nodes ended next = ended
+goOnBy stop.Bounds ended next = ended
+
+abbrev pub goOn : Drawing → (Drawing → Drawing) → Drawing
+goOn d next = goOnBy (d .stop) d (next d)
+
+-- ---- an edge: its landings and, where some are outside the invariant of its location, those that are inside
+
+-- the zone y of the landings and the invariant i
+abbrev pub outside? : Square → Square → Bool
+outside? y i = not (inside? y i)
+
+unfoldable pub landedSquare : Square → Square → Square
+landedSquare y i = cond (outside? y i) (common y i) y
+
+-- the code of a B word
+abbrev pub codeOf : ℕ → Bool → ℕ
+codeOf n outside = cond outside (n + 64) n
+
+-- with the node placed for an edge
+unfoldable pub withPlaced : Bool → Placing → Drawing → Drawing
+withPlaced outside p d = goOnBy (p .stop) (drawing (p .stop) (p .fronts) (d .codes)) (withCode (codeOf (p .number) outside) (drawing stop.None (p .fronts) (d .codes)))
+
+-- what is found, and where the codes of each node explored end
+pub record Explored : Type 0 where
+  pub drawn : Drawing
+  pub ends : List ℕ
+
+abbrev pub exploredAs : Drawing → List ℕ → Explored
+exploredAs d ends = record { drawn = d; ends = ends }
+
+unfoldable pub goOnEnds : Stop → Explored → Explored → Explored
+goOnEnds stop.None ended next = next
+goOnEnds stop.Nodes ended next = ended
+goOnEnds stop.Bounds ended next = ended
+
+-- the start node, of the zone y of the start valuations
+unfoldable pub startDrawing : Index → Square → Drawing
+startDrawing x y =
+    let Z : Zone = zoneFrom (x .clocks) y in
+    let p : Placing = placedIn (narrow? Z) (frontWords (record { location = x .start; zone = Z })) [] in
+    drawing (p .stop) (p .fronts) []
+
+-- what is kept of the model
+module _ (m : Kept) where
+  -- with the successor of the edge of the word w, from a reach that is not empty
+  unfoldable pub withSuccessor : Square → ℕ → Drawing → Drawing
+  withSuccessor reach w d =
+      let y : Square = resetSquare (maskOf w) reach in
+      let i : Square = zoneAt (m .zones) (landsAt w) in
+      let Z : Zone = zoneFrom (m .index .clocks) (landedSquare y i) in
+      withPlaced (outside? y i) (placedIn (narrow? Z) (frontWords (record { location = landsAt w; zone = Z })) (d .fronts)) d
+
+  -- with those of n edges, from number e on
+  unfoldable pub successorsFrom : Square → ℕ → ℕ → Drawing → Drawing
+  successorsFrom reach zero e d = d
+  successorsFrom reach (suc n) e d = goOn (withSuccessor reach (getD (m .edges) e 0) d) (successorsFrom reach n (suc e))
+
+  -- with the row of the action a, where waiting attains `waited`: one A word if its reach is empty
+  unfoldable pub withRow : Square → ℕ → Drawing → Drawing
+  withRow waited a d =
+      let reach : Square = common waited (zoneAt (m .zones) (guardsAt + a)) in
+      cond (empty? reach) (withCode 255 d) (successorsFrom reach (edgesAt (m .index) a) (getD (m .index .edges) a 0) d)
+
+  -- with those of n actions, from number a on
+  unfoldable pub rowsFrom : Square → ℕ → ℕ → Drawing → Drawing
+  rowsFrom waited zero a d = d
+  rowsFrom waited (suc n) a d = goOn (withRow waited a d) (rowsFrom waited n (suc a))
+
+  -- with those of the node n; a target has none
+  unfoldable pub withNode : ℕ → Drawing → Drawing
+  withNode n d =
+      let f : List ℕ = getD (d .fronts) n [] in
+      let l : ℕ = locationOf (getD f 0 0) in
+      let first : ℕ = getD (m .index .actions) l 0 in
+      cond (getD (m .index .targets) l false) d
+      (rowsFrom (waitedSquare (readZone (m .index .clocks) (drop 1 f) .zone) (zoneAt (m .zones) l)) (getD (m .index .actions) (l + 1) 0 - first) first d)
+
+  -- with n nodes more, from number k on, as far as there are nodes
+  unfoldable pub nodesFrom : ℕ → ℕ → List ℕ → Drawing → Explored
+  nodesFrom zero k ends d = exploredAs d ends
+  nodesFrom (suc n) k ends d =
+      let next : Drawing = withNode k d in
+      cond (ltb k (length (d .fronts)))
+      (goOnEnds (next .stop) (exploredAs next ends) (nodesFrom n (suc k) (ends ++ (length (next .codes) ∷ [])) next))
+      (exploredAs d ends)
+
+  -- all of it, from the zone y of the start valuations
+  unfoldable pub exploredFrom : Square → Explored
+  exploredFrom y =
+      let d : Drawing = startDrawing (m .index) y in
+      goOnEnds (d .stop) (exploredAs d []) (nodesFrom 64 0 [] d)
+
+-- why exploring has ended, in the documents' numbers
+unfoldable pub stopAnswer : {A : Type 0} → Stop → A → Answer A
+stopAnswer stop.None a = accepted a
+stopAnswer stop.Nodes a = refused 58 0
+stopAnswer stop.Bounds a = refused 59 0

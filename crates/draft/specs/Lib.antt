@@ -1,0 +1,7 @@
+pub mod Answers
+pub mod Fronts
+pub mod Nodes
+pub mod Exploration
+pub mod Asked
+pub mod Values
+pub mod Writing
