@@ -1,0 +1,2 @@
+-- The laws of `draft`; proofs of functions stand in folders of their own.
+pub mod Coding
