@@ -29,7 +29,7 @@ allCodes (rs ∷ rows) (q ∷ qs) = rowsCodes rs (q .rows) ++ allCodes rows qs
 unfoldable pub endsFrom : ℕ → List (List FoundRow) → List Valued → List ℕ
 endsFrom p [] qs = []
 endsFrom p (rs ∷ rows) [] = []
-endsFrom p (rs ∷ rows) (q ∷ qs) = p + length (rowsCodes rs (q .rows)) ∷ endsFrom (p + length (rowsCodes rs (q .rows))) rows qs
+endsFrom p (rs ∷ rows) (q ∷ qs) = (p + length (rowsCodes rs (q .rows))) ∷ endsFrom (p + length (rowsCodes rs (q .rows))) rows qs
 
 -- the codes and ends are those of these rows
 pub record Coded (rows : List (List FoundRow)) (qs : List Valued) (codes ends : List ℕ) : Type 0 where
