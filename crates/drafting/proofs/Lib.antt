@@ -2,3 +2,5 @@
 pub mod BoundingLaws
 pub mod WordBack
 pub mod ReadBack
+pub mod OneDraft
+pub mod ExploreLaws
