@@ -20,7 +20,8 @@ use Rattle.table.specs.Table.{Successor, Row, blockedRow, successorRow, Body, r
 use Rattle.table.specs.Table.{successorsOf, rowsOf, leadingBounds, rowActions, bodyOf, nodeOf, nodesOf, tableOf}
 use Rattle.drafting.specs.Exploring.{Found, FoundRow, blocked, toNodes}
 use Rattle.drafting.specs.Words.{whole, word, boundWord, frontWords, rowWords, rowsWords, nodeWords, nodesWords, wordsOf}
-use Rattle.drafting.proofs.WordBack.{AllFit, bound-kind, zone-back, word-kind, word-fields, word-location, word-number}
+use Rattle.drafting.proofs.WordBack.{AllFit, bound-kind, zone-back}
+use Rattle.drafting.proofs.WordBack.{node-kind, node-fields, value-kind, value-fields, successor-kind, successor-fields}
 
 -- ---- the table that was drafted, with the places of its words
 
@@ -80,16 +81,21 @@ NodesFit M count (F ∷ Fs) [] rows = ⊥
 NodesFit M count (F ∷ Fs) (v ∷ vs) [] = ⊥
 NodesFit M count (F ∷ Fs) (v ∷ vs) (rs ∷ rows) = NodeFit M count F v rs × NodesFit M count Fs vs rows
 
+-- one node for each that is found
+pub nodes-count : (M : Model) (count p : ℕ) (Fs : List Found) (vs : List ℕ) (rows : List (List FoundRow)) → NodesFit M count Fs vs rows →
+    length (nodesAt p Fs vs rows) ≡ length Fs
+nodes-count M count p [] vs rows h = refl
+nodes-count M count p (F ∷ Fs) [] rows h = absurd h
+nodes-count M count p (F ∷ Fs) (v ∷ vs) [] h = absurd h
+nodes-count M count p (F ∷ Fs) (v ∷ vs) (rs ∷ rows) h = ap suc (nodes-count M count _ Fs vs rows (h .1))
+
 -- ---- reading back
 module _ (count : ℕ) (few : count ≤ 64) where
-  successor-kind : (n : ℕ) → n < count → kind (word 11 n) ≡ 11
-  successor-kind n h = word-kind n 11 (omega arith) (omega arith)
-
   successors-back : (p : ℕ) (ns : List ℕ) (rest : List ℕ) → Numbers count ns →
       successorsOf (length ns) p (map (word 11) ns ++ rest) ≡ successorsAt p ns
   unfolding successorsOf
   successors-back p [] rest h = refl
-  successors-back p (n ∷ ns) rest h = cons (word-number n 11 (let l = h .0 in omega arith) .0) (successors-back (suc p) ns rest (h .1))
+  successors-back p (n ∷ ns) rest h = cons (successor-fields n (N.lt-of-lt-of-le (h .0) few) .0) (successors-back (suc p) ns rest (h .1))
     where
       cons : numberOf (word 11 n) ≡ n → successorsOf (length ns) (suc p) (map (word 11) ns ++ rest) ≡ successorsAt (suc p) ns →
           _≡_ {A = List Successor}
@@ -106,7 +112,7 @@ module _ (count : ℕ) (few : count ≤ 64) where
   rows-back p (A ∷ As) (blocked ∷ rs) rest h = ap (λ (xs : List Row). blockedRow p ∷ xs) (rows-back (suc p) As rs rest (h .1))
   rows-back p (A ∷ As) (toNodes [] ∷ rs) rest h = absurd (N.not-suc-le-zero (h .0 .0))
   rows-back p (A ∷ As) (toNodes (n ∷ ns) ∷ rs) rest h =
-      rw (successor-kind n (h .0 .2 .0), ← h .0 .1)
+      rw (successor-kind n (N.lt-of-lt-of-le (h .0 .2 .0) few), ← h .0 .1)
       (cons (ap (successorsOf (suc (length ns)) p) split ∙ successors-back p (n ∷ ns) (rowsWords rs ++ rest) (h .0 .2))
       (ap (rowsOf As (p + suc (length ns))) (ap (drop (suc (length ns))) split ∙ behind)
       ∙ rows-back (p + suc (length ns)) As rs rest (h .1)))
@@ -187,7 +193,7 @@ bounds-none k o C few (b ∷ Z) h = (not-of k (boundWord b) 5 (bound-kind C few 
 module _ (count : ℕ) (few : count ≤ 64) where
   numbers-none : (k : TableKind) → Outer k → (ns : List ℕ) → Numbers count ns → NoKind k (map (word 11) ns)
   numbers-none k o [] h = tt
-  numbers-none k o (n ∷ ns) h = (not-of k (word 11 n) 11 (successor-kind count few n (h .0)) (o .successor), numbers-none k o ns (h .1))
+  numbers-none k o (n ∷ ns) h = (not-of k (word 11 n) 11 (successor-kind n (N.lt-of-lt-of-le (h .0) few)) (o .successor), numbers-none k o ns (h .1))
 
   rows-none : (k : TableKind) → Outer k → (As : List Action) (rs : List FoundRow) → RowsWritable count As rs → NoKind k (rowsWords rs)
   unfolding rowsWords rowWords
@@ -199,12 +205,6 @@ module _ (count : ℕ) (few : count ≤ 64) where
       no-kind-join k (map (word 11) ns) (rowsWords rs) (numbers-none k o ns (h .0 .2)) (rows-none k o As rs (h .1))
 
   module _ (M : Model) (clocks : M .clocks ≤ 4) (locations : length (M .locations) ≤ 16) where
-    value-kind : (v : ℕ) → v ≤ whole → kind (word 9 v) ≡ 9
-    value-kind v h = word-kind v 9 (omega arith) (omega arith)
-
-    location-back : (l : ℕ) → l < length (M .locations) → locationOf (word 8 (l * 2 ^ 24)) ≡ l
-    location-back l h = word-location l 8 (omega arith) .0
-
     -- rows, in front of words without a cut
     body-back : (L : Location) (p : ℕ) (rs : List FoundRow) (rest : List ℕ) → RowsWritable count (rowActions L) rs → NoKind cut rest →
         bodyOf L p (rowsWords rs ++ rest) ≡ rowsBody (rowsAt p rs)
@@ -218,8 +218,8 @@ module _ (count : ℕ) (few : count ≤ 64) where
         nodeOf M p (word 8 (F .location * 2 ^ 24)) (map boundWord (F .zone) ++ (word 9 v ∷ (rowsWords rs ++ rest))) ≡ nodeAtPlace p F v rs
     unfolding nodeOf
     node-back p F v rs rest h g =
-        rw (leading, behind, size, location-back (F .location) (h .location), zone-back (M .clocks) clocks (F .zone) (h .zone))
-        (made (word-fields v 9 (let l = h .value in omega arith)) (body-back (locationAt M (F .location)) _ rs rest (h .rows) g))
+        rw (leading, behind, size, location, zone-back (M .clocks) clocks (F .zone) (h .zone))
+        (made (value-fields v (h .value)) (body-back (locationAt M (F .location)) _ rs rest (h .rows) g))
       where
         ws : List ℕ
         ws = word 9 v ∷ (rowsWords rs ++ rest)
@@ -228,6 +228,9 @@ module _ (count : ℕ) (few : count ≤ 64) where
         leading =
             leading-back (M .clocks) clocks (F .zone) (h .zone) (word 9 v) (rowsWords rs ++ rest)
             (not-of nodeBound (word 9 v) 9 (value-kind v (h .value)) refl)
+
+        location : locationOf (word 8 (F .location * 2 ^ 24)) ≡ F .location
+        location = node-fields (F .location) (N.lt-of-lt-of-le (h .location) locations) .0
 
         size : length (map boundWord (F .zone)) ≡ length (F .zone)
         size = length-map (F .zone) boundWord
@@ -240,9 +243,6 @@ module _ (count : ℕ) (few : count ≤ 64) where
             (record { location = F .location; zone = F .zone; value = valueOf (word 9 v); place = suc p + length (F .zone); body = x })
             (record { location = F .location; zone = F .zone; value = v; place = suc p + length (F .zone); body = y })
         made e f = rw (e, f)
-
-    node-kind : (l : ℕ) → l < length (M .locations) → kind (word 8 (l * 2 ^ 24)) ≡ 8
-    node-kind l h = omega arith
 
     -- the words behind a node's first word
     abbrev inner : Found → ℕ → List FoundRow → List ℕ
@@ -259,7 +259,7 @@ module _ (count : ℕ) (few : count ≤ 64) where
         nodesOf M p (nodeWords F v rs ++ rest) ≡ nodeAtPlace p F v rs ∷ nodesOf M (p + length (nodeWords F v rs)) rest
     unfolding nodeWords frontWords nodesOf
     one-back p F v rs rest h g =
-        rw (node-kind (F .location) (h .location))
+        rw (node-kind (F .location) (N.lt-of-lt-of-le (h .location) locations))
         (cons (ap (nodeOf M p (word 8 (F .location * 2 ^ 24))) split ∙ node-back p F v rs rest h g)
         (passed-over M (suc p) (inner F v rs) rest (inner-none node outer-node F v rs h) ∙ ap (λ (q : ℕ). nodesOf M q rest) place))
       where
@@ -281,7 +281,7 @@ module _ (count : ℕ) (few : count ≤ 64) where
     nodes-none k o e (F ∷ Fs) [] rows h = absurd h
     nodes-none k o e (F ∷ Fs) (v ∷ vs) [] h = absurd h
     nodes-none k o e (F ∷ Fs) (v ∷ vs) (rs ∷ rows) h = (
-      not-of k (word 8 (F .location * 2 ^ 24)) 8 (node-kind (F .location) (h .0 .location)) e,
+      not-of k (word 8 (F .location * 2 ^ 24)) 8 (node-kind (F .location) (N.lt-of-lt-of-le (h .0 .location) locations)) e,
       no-kind-join k (inner F v rs) (nodesWords Fs vs rows) (inner-none k o F v rs (h .0)) (nodes-none k o e Fs vs rows (h .1)),
     )
 

@@ -9,7 +9,7 @@ use lib.Dec.{eqb, ltb}
 use lib.IntN.{ℤ, pos, negsuc, natAbs, _+ℤ_, _-ℤ_, +ℤ-negℤ-cancel}
 use Rattle.zone.specs.Scale.{Bound, Zone}
 use Rattle.zone.specs.Words.{bits, kind, boundOf, boundFields?, goodBound?, zoneOf}
-use Rattle.drafting.specs.Words.{word, boundWord}
+use Rattle.drafting.specs.Words.{whole, word, boundWord}
 
 -- ---- d + 4,096
 pub record Shifted (d : ℤ) (n : ℕ) : Type 0 where
@@ -115,18 +115,31 @@ zone-back C few (b ∷ Z) h = cons (bound-back C few b (h .0)) (zone-back C few 
     cons e f = rw (e, f)
 
 -- ---- the other words
-module _ (n : ℕ) where
-  pub word-kind : (k : ℕ) → k < 16 → n < 2 ^ 28 → kind (word k n) ≡ k
-  word-kind k hk h = omega arith
 
-  -- the lowest 28 bits
-  pub word-fields : (k : ℕ) → n < 2 ^ 28 → bits 27 0 (word k n) ≡ n
-  word-fields k h = omega arith
+pub word-kind : (n k : ℕ) → k < 16 → n < 2 ^ 28 → kind (word k n) ≡ k
+word-kind n k hk h = omega arith
 
-  -- a node's location
-  pub word-location : (k : ℕ) → n < 16 → (bits 27 24 (word k (n * 2 ^ 24)) ≡ n) × (bits 23 0 (word k (n * 2 ^ 24)) ≡ 0)
-  word-location k h = (omega arith, omega arith)
+-- the lowest 28 bits
+pub word-fields : (n k : ℕ) → n < 2 ^ 28 → bits 27 0 (word k n) ≡ n
+word-fields n k h = omega arith
 
-  -- the number of a node
-  pub word-number : (k : ℕ) → n < 64 → (bits 5 0 (word k n) ≡ n) × (bits 27 6 (word k n) ≡ 0)
-  word-number k h = (omega arith, omega arith)
+-- 8: a location
+pub node-kind : (l : ℕ) → l < 16 → kind (word 8 (l * 2 ^ 24)) ≡ 8
+node-kind l h = omega arith
+
+pub node-fields : (l : ℕ) → l < 16 → (bits 27 24 (word 8 (l * 2 ^ 24)) ≡ l) × (bits 23 0 (word 8 (l * 2 ^ 24)) ≡ 0)
+node-fields l h = (omega arith, omega arith)
+
+-- 9: a value
+pub value-kind : (v : ℕ) → v ≤ whole → kind (word 9 v) ≡ 9
+value-kind v h = word-kind v 9 (omega arith) (omega arith)
+
+pub value-fields : (v : ℕ) → v ≤ whole → bits 27 0 (word 9 v) ≡ v
+value-fields v h = word-fields v 9 (omega arith)
+
+-- B: the number of a node
+pub successor-kind : (n : ℕ) → n < 64 → kind (word 11 n) ≡ 11
+successor-kind n h = word-kind n 11 (omega arith) (omega arith)
+
+pub successor-fields : (n : ℕ) → n < 64 → (bits 5 0 (word 11 n) ≡ n) × (bits 27 6 (word 11 n) ≡ 0)
+successor-fields n h = (omega arith, omega arith)
