@@ -8,3 +8,7 @@ pub mod ReadBack
 pub mod PassingWords
 pub mod OneDraft
 pub mod ExploreLaws
+pub mod ValuedRows
+pub mod DraftTable
+pub mod DraftRounds
+pub mod KnownRows

@@ -174,7 +174,7 @@ module _ (M : Model) where
       cons : u ≡ v → us ≡ vs → _≡_ {A = List ℕ} (u ∷ us) (v ∷ vs)
       cons p q = rw (p, q)
 
-  rounds-one : (Fs : List Found) (rows : List (List FoundRow)) (n : ℕ) (vs us ws : List ℕ) → Rounds M Fs rows n vs us → Rounds M Fs rows n vs ws → us ≡ ws
+  pub rounds-one : (Fs : List Found) (rows : List (List FoundRow)) (n : ℕ) (vs us ws : List ℕ) → Rounds M Fs rows n vs us → Rounds M Fs rows n vs ws → us ≡ ws
   rounds-one Fs rows zero vs us ws f g = f ∙ sym g
   rounds-one Fs rows (suc n) vs us ws f g =
       let W : Table = tableOf M (wordsOf Fs vs rows) in
