@@ -12,3 +12,4 @@ pub mod ValuedRows
 pub mod DraftTable
 pub mod DraftRounds
 pub mod KnownRows
+pub mod DraftAccepted

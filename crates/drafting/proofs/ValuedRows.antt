@@ -1,6 +1,6 @@
 -- The rows found, as rounds read them: the edges of the rows with successors, each with its weight, its node and whether it can land outside. The
 -- edges of a row weigh D. Assumes nothing.
-use Prim.Native.Nat.{ℕ, zero, suc, _+_, _≤_, _<_, zero-le}
+use Prim.Native.Nat.{ℕ, zero, suc, _≤_, _<_, zero-le}
 use mathlib.Core.Path.{_≡_, refl, ap, _∙_}
 use mathlib.Core.Bool.{Bool, true, false}
 use mathlib.Core.List.{List, [], _∷_}
