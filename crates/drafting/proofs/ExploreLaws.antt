@@ -157,8 +157,8 @@ holder-grown {found = found} {later = later} g {l} {R} {n} h = record {
     same : getD later n noFound ≡ getD found n noFound
     same = grown-at g n (h .there)
 
-pub node-found : {M : Model} → WellFormed M → {l : ℕ} → l < length (M .locations) → (S : Zone) {found : List Found} → Ready M found → (s : Progress ℕ) →
-    nodeFor (M .clocks) l S found (accepted s) → Yields M found (λ later. Holder later l (within S)) s
+pub node-found : {M : Model} → WellFormed M → {l : ℕ} → l < length (M .locations) → (S : Zone) {found : List Found} → Ready M found →
+    (s : Progress ℕ) → nodeFor (M .clocks) l S found (accepted s) → Yields M found (λ later. Holder later l (within S)) s
 unfolding newChecks
 node-found formed hl S r s (inl h) =
     yields s (h .3) (grown-same r) (record { there = h .1 .there; location = h .1 .location; inside = h .1 .same .out })
@@ -295,8 +295,10 @@ module _ (M : Model) (formed : WellFormed M) where
       let all : Grown M found later = grown-trans (first .grown) (others .grown) in
       let stays : getD later n noFound ≡ F = grown-at all n (h .0) in
       yields s (rest .2) all
-      (rw (drop-cons later n noFound (N.lt-of-lt-of-le (h .0) (grown-length all)))
-      (subst (λ (G : Found). RowsGood M later G (t .result)) (sym stays) (rows-grown M (others .grown) F As (t .result) (first .right)), others .right))
+      (rw (drop-cons later n noFound (N.lt-of-lt-of-le (h .0) (grown-length all))) (
+        subst (λ (G : Found). RowsGood M later G (t .result)) (sym stays) (rows-grown M (others .grown) F As (t .result) (first .right)),
+        others .right,
+      ))
 
   pub exploring-found : (s : Progress (List (List FoundRow))) → exploring M [] (accepted s) → AllFound M (s .found) (s .result)
   exploring-found s h =

@@ -1,5 +1,5 @@
 -- At most one answer, and one state of the lent words, meets what is said of a draft. Assumes nothing.
-use Prim.Native.Nat.{ℕ, zero, suc, _≤_, _<_, max, min}
+use Prim.Native.Nat.{ℕ, zero, suc, _≤_, _<_, min}
 use mathlib.Core.Path.{_≡_, refl, sym, ap, subst, _∙_}
 use mathlib.Core.Logic.{_⊎_, inl, inr}
 use mathlib.Core.Bool.{Bool, true, false, not}
@@ -41,7 +41,7 @@ use Rattle.drafting.specs.Exploring.{
   exploring,
 }
 use Rattle.drafting.specs.Words.{whole, wordsOf}
-use Rattle.drafting.specs.Rounds.{roundedUp, Largest, LargestOf, Replaces, Rounds}
+use Rattle.drafting.specs.Rounds.{Largest, LargestOf, Replaces, Rounds}
 use Rattle.drafting.specs.Drafting.{Ends, Drafts, lengthOf, lentAfter, Drafted}
 use Rattle.drafting.proofs.BoundingLaws.{same-refl, same-sym, same-trans, bounds-one, smallest-one}
 
@@ -87,13 +87,14 @@ node-one C l S Y s found a b (inl x) (inr y) = absurd (y .0 (x .0) (known-same s
 node-one C l S Y s found a b (inr x) (inl y) = absurd (x .0 (y .0) (known-same (same-sym s) (y .1)))
 node-one C l S Y s found a b (inr x) (inr y) = by (x .1 .0) (y .1 .0) (bounds-one C (x .1 .0) (y .1 .0) s (x .1 .1) (y .1 .1)) (x .1 .2) (y .1 .2)
   where
-    step : Zone → Progress ℕ
-    step Z = record { found = found ++ (record { location = l; zone = Z } ∷ []); result = length found }
+    -- with the new node
+    grown : Zone → Progress ℕ
+    grown Z = record { found = found ++ (record { location = l; zone = Z } ∷ []); result = length found }
 
-    by : (Z Z′ : Zone) → Z ≡ Z′ → First (newChecks found Z) (λ t. t ≡ step Z) a → First (newChecks found Z′) (λ t. t ≡ step Z′) b → a ≡ b
+    by : (Z Z′ : Zone) → Z ≡ Z′ → First (newChecks found Z) (λ t. t ≡ grown Z) a → First (newChecks found Z′) (λ t. t ≡ grown Z′) b → a ≡ b
     by Z Z′ e f g =
-        first-one (newChecks found Z′) (λ t. t ≡ step Z′) (λ t u p q. p ∙ sym q) a b
-        (subst (λ (Z : Zone). First (newChecks found Z) (λ t. t ≡ step Z) a) e f) g
+        first-one (newChecks found Z′) (λ t. t ≡ grown Z′) (λ t u p q. p ∙ sym q) a b
+        (subst (λ (Z : Zone). First (newChecks found Z) (λ t. t ≡ grown Z) a) e f) g
 
 -- ---- exploring
 module _ (M : Model) where
@@ -112,7 +113,8 @@ module _ (M : Model) where
   row-one F A found a b (inl x) (inr y) = absurd (y .0 (x .0))
   row-one F A found a b (inr x) (inl y) = absurd (x .0 (y .0))
   row-one F A found a b (inr x) (inr y) =
-      then-one (successorsFor M F A (A .edges)) (λ ns. done (toNodes ns)) (successors-one F A (A .edges)) (λ ns. done-one (toNodes ns)) found a b (x .1) (y .1)
+      then-one (successorsFor M F A (A .edges)) (λ ns. done (toNodes ns)) (successors-one F A (A .edges)) (λ ns. done-one (toNodes ns)) found a b
+      (x .1) (y .1)
 
   rows-one : (F : Found) (As : List Action) (found : List Found) → One (rowsFor M F As found)
   rows-one F [] found = done-one [] found
@@ -143,10 +145,7 @@ module _ (M : Model) where
   largest-one W N (A ∷ As) [] u v f g = f ∙ sym g
   largest-one W N (A ∷ As) (blockedRow p ∷ rs) u v f g = largest-one W N As rs u v f g
   largest-one W N (A ∷ As) (successorRow p ss ∷ rs) u v f g =
-      f .4 ∙ both (sum-one M W N A (A .edges) ss (f .0) (g .0) (f .2) (g .2)) (largest-one W N As rs (f .1) (g .1) (f .3) (g .3)) ∙ sym (g .4)
-    where
-      both : {x y a b : ℕ} → x ≡ y → a ≡ b → max (roundedUp x (M .denominator)) a ≡ max (roundedUp y (M .denominator)) b
-      both p q = rw (p, q)
+      rw (f .4, g .4, sum-one M W N A (A .edges) ss (f .0) (g .0) (f .2) (g .2), largest-one W N As rs (f .1) (g .1) (f .3) (g .3))
 
   body-one : (W : Table) (N : Node) (As : List Action) (b : Body) (u v : ℕ) → LargestOf M W N As b u → LargestOf M W N As b v → u ≡ v
   body-one W N As (rowsBody rs) u v f g = largest-one W N As rs u v f g
@@ -169,12 +168,10 @@ module _ (M : Model) where
   round-one W [] (u ∷ us) vs f g = absurd f
   round-one W (N ∷ Ns) [] vs f g = absurd f
   round-one W (N ∷ Ns) (u ∷ us) [] f g = absurd g
-  round-one W (N ∷ Ns) (u ∷ us) (v ∷ vs) f g = cons (replaces-one W N u v (f .0) (g .0)) (round-one W Ns us vs (f .1) (g .1))
-    where
-      cons : u ≡ v → us ≡ vs → _≡_ {A = List ℕ} (u ∷ us) (v ∷ vs)
-      cons p q = rw (p, q)
+  round-one W (N ∷ Ns) (u ∷ us) (v ∷ vs) f g = rw (replaces-one W N u v (f .0) (g .0), round-one W Ns us vs (f .1) (g .1))
 
-  pub rounds-one : (Fs : List Found) (rows : List (List FoundRow)) (n : ℕ) (vs us ws : List ℕ) → Rounds M Fs rows n vs us → Rounds M Fs rows n vs ws → us ≡ ws
+  pub rounds-one : (Fs : List Found) (rows : List (List FoundRow)) (n : ℕ) (vs us ws : List ℕ) → Rounds M Fs rows n vs us →
+      Rounds M Fs rows n vs ws → us ≡ ws
   rounds-one Fs rows zero vs us ws f g = f ∙ sym g
   rounds-one Fs rows (suc n) vs us ws f g =
       let W : Table = tableOf M (wordsOf Fs vs rows) in
@@ -186,7 +183,8 @@ module _ (M : Model) where
 
   ends-one : (rounds room : ℕ) (s : Progress (List (List FoundRow))) → One (Ends M rounds room s)
   ends-one rounds room s a b f g =
-      by (f .0) (g .0) (rounds-one (s .found) (s .result) (min rounds 1000) (replicate (length (s .found)) whole) (f .0) (g .0) (f .1) (g .1)) (f .2) (g .2)
+      by (f .0) (g .0) (rounds-one (s .found) (s .result) (min rounds 1000) (replicate (length (s .found)) whole) (f .0) (g .0) (f .1) (g .1))
+      (f .2) (g .2)
     where
       by : (us vs : List ℕ) → us ≡ vs → First (lastCheck room s us) (λ ws. ws ≡ wordsOf (s .found) us (s .result)) a →
           First (lastCheck room s vs) (λ ws. ws ≡ wordsOf (s .found) vs (s .result)) b → a ≡ b
@@ -199,11 +197,12 @@ pub drafts-one : (model : List ℕ) (rounds room : ℕ) (a b : Answer (List ℕ)
 drafts-one model rounds room a b f g =
     on-one (First (modelChecks model) (λ (_ : Unit {0}). Unit {0})) (λ _. onFrom (exploring (modelOf model) []) (Ends (modelOf model) rounds room))
     (first-one (modelChecks model) (λ (_ : Unit {0}). Unit {0}) (λ x y p q. refl))
-    (λ _. on-one (exploring (modelOf model) []) (Ends (modelOf model) rounds room) (exploring-one (modelOf model) []) (ends-one (modelOf model) rounds room))
+    (λ _. on-one (exploring (modelOf model) []) (Ends (modelOf model) rounds room) (exploring-one (modelOf model) [])
+    (ends-one (modelOf model) rounds room))
     a b (f .says) (g .says)
 
-pub drafted-one : (model : List ℕ) (rounds : ℕ) (lent : List ℕ) (a b : Answer ℕ) (us vs : List ℕ) → Drafted model rounds lent a us → Drafted model rounds lent b vs →
-    (a ≡ b) × (us ≡ vs)
+pub drafted-one : (model : List ℕ) (rounds : ℕ) (lent : List ℕ) (a b : Answer ℕ) (us vs : List ℕ) → Drafted model rounds lent a us →
+    Drafted model rounds lent b vs → (a ≡ b) × (us ≡ vs)
 drafted-one model rounds lent a b us vs f g =
     let same : f .draft ≡ g .draft = drafts-one model rounds (length lent) (f .draft) (g .draft) (f .drafts) (g .drafts) in
     (f .answers ∙ ap lengthOf same ∙ sym (g .answers), f .writes ∙ ap (λ (d : Answer (List ℕ)). lentAfter d lent) same ∙ sym (g .writes))
