@@ -46,7 +46,7 @@ use Rattle.drafting.specs.Drafting.{Ends, Drafts, lengthOf, lentAfter, D
 use Rattle.drafting.proofs.BoundingLaws.{same-refl, same-sym, same-trans, bounds-one, smallest-one}
 
 -- at most one answer
-abbrev One : {A : Type 0} → (Answer A → Type 0) → Type 0
+abbrev pub One : {A : Type 0} → (Answer A → Type 0) → Type 0
 One {A} P = (a b : Answer A) → P a → P b → a ≡ b
 
 accepted-refused : {A X : Type 0} {a : A} {n p : ℕ} → _≡_ {A = Answer A} (accepted a) (refused n p) → X
