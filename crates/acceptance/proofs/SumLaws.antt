@@ -13,7 +13,7 @@ use Rattle.model.proofs.ZoneLaws.{All, more}
 use Rattle.table.specs.Table.{Successor, Node, Table, nodeAt}
 use Rattle.acceptance.specs.Acceptance.{landings, CanLandOutside, Worth, SumOf}
 
-module _ (M : Model) (W : Table) (N : Node) (A : Action) where
+module _ (M : Model) (N : Node) (A : Action) where
   -- ---- an edge that cannot land outside has all its landings inside, and the other way round
 
   abbrev pub LandsInside : Edge → Type 0
@@ -30,6 +30,11 @@ module _ (M : Model) (W : Table) (N : Node) (A : Action) where
   unfolding within
   inside-cannot e i o = not-both (in? (o .scale) (o .valuation) (locationAt M (e .to) .invariant)) (i .at _ (o .positive) _ (o .lands)) (o .outside)
 
+  -- it is known whether the edge can land outside
+  abbrev pub Known : Edge → Type 0
+  Known e = CanLandOutside M N A e ⊎ (CanLandOutside M N A e → ⊥)
+
+module _ (M : Model) (W : Table) (N : Node) (A : Action) where
   -- ---- at most one sum
 
   worth-one : (e : Edge) (s : Successor) (x y : ℕ) → Worth M W N A e s x → Worth M W N A e s y → x ≡ y
@@ -49,14 +54,11 @@ module _ (M : Model) (W : Table) (N : Node) (A : Action) where
 
   -- ---- one, where it is known of each edge
 
-  abbrev pub Known : Edge → Type 0
-  Known e = CanLandOutside M N A e ⊎ (CanLandOutside M N A e → ⊥)
-
-  worth-there : (e : Edge) (s : Successor) → Known e → (x : ℕ) × Worth M W N A e s x
+  worth-there : (e : Edge) (s : Successor) → Known M N A e → (x : ℕ) × Worth M W N A e s x
   worth-there e s (inl o) = (W .whole, inl (o, refl))
   worth-there e s (inr i) = (nodeAt W (s .node) .value, inr (i, refl))
 
-  pub sum-there : (es : List Edge) (ss : List Successor) → All Known es → (x : ℕ) × SumOf M W N A es ss x
+  pub sum-there : (es : List Edge) (ss : List Successor) → All (Known M N A) es → (x : ℕ) × SumOf M W N A es ss x
   sum-there [] ss t = (0, refl)
   sum-there (e ∷ es) [] t = (0, refl)
   sum-there (e ∷ es) (s ∷ ss) (more t ts) =

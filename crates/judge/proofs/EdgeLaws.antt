@@ -1,5 +1,5 @@
 -- What an edge with its successor comes to: the walk decides 17 and 18, and what it adds is what the edge has in the sum of 19. Assumes nothing.
-use Prim.Native.Nat.{ℕ, _-_, _*_, _<_}
+use Prim.Native.Nat.{ℕ, _*_, _<_}
 use mathlib.Core.Path.{_≡_, refl, ap, _∙_}
 use mathlib.Core.Logic.{inl, inr}
 use mathlib.Core.Bool.{Bool, true, false, cond, _&&_, _||_}
@@ -8,21 +8,18 @@ use native.Mathlib.Omega.{arith}
 use borrow.Author.Tests.{eqb-true, eqb-false}
 use lib.Dec.{eqb}
 use lib.ListN.{getD, length}
-use Rattle.zone.specs.Scale.{Zone, in?, within, Empty, Inside}
-use Rattle.zone.specs.Moves.{ResetOf}
+use Rattle.zone.specs.Scale.{Zone, within, Inside}
 use Rattle.zone.specs.Checks.{check}
 use Rattle.zone.specs.Squares.{universe, resetSquare, empty?, inside?}
 use Rattle.zone.specs.Stores.{zoneAt}
 use Rattle.zone.specs.declared.zones.Zone.{Zone as Square}
-use Rattle.zone.proofs.Bools.{untrue}
-use Rattle.zone.proofs.Regions.{inBoth}
-use Rattle.zone.proofs.Spans.{spans, Beyond, inside-yes}
+use Rattle.zone.proofs.Spans.{spans, inside-yes}
 use Rattle.model.specs.Fields.{maskOf, landsAt, weightOf}
 use Rattle.model.specs.Model.{Edge, Action, Model, edgeOf}
 use Rattle.model.specs.States.{locationAt}
 use Rattle.model.specs.Index.{Kept as ModelKept}
 use Rattle.model.specs.Indexed.{withBounds, Indexed}
-use Rattle.model.proofs.ZoneLaws.{All, empty, more, GoodZone, stands-bounds}
+use Rattle.model.proofs.ZoneLaws.{GoodZone, stands-bounds}
 use Rattle.model.proofs.GoodModel.{GoodModel}
 use Rattle.model.proofs.WellFormed.{FormedEdge}
 use Rattle.model.proofs.IndexLaws.{location-at}
@@ -31,8 +28,8 @@ use Rattle.table.specs.Index.{Kept}
 use Rattle.table.specs.Indexed.{TableIndexed}
 use Rattle.table.specs.declared.read.TableRead.{TableRead}
 use Rattle.table.proofs.Shape.{Shaped}
-use Rattle.acceptance.specs.Acceptance.{Reach, HasLocation, landings, landingsInside, HoldsLandings, CanLandOutside, Worth}
-use Rattle.acceptance.proofs.SumLaws.{inside-cannot, Known}
+use Rattle.acceptance.specs.Acceptance.{HasLocation, landings, landingsInside, HoldsLandings, CanLandOutside, Worth}
+use Rattle.acceptance.proofs.SumLaws.{inside-cannot}
 use Rattle.judge.specs.Reaching.{common, containedBelow}
 use Rattle.judge.specs.Landing.{added, failed, landingsOutcome, successorOutcome}
 use Rattle.judge.specs.Findings.{findingAnswer}
@@ -41,19 +38,8 @@ use Rattle.judge.specs.declared.landing.Outcome.{Outcome}
 use Rattle.judge.proofs.FindingLaws.{Finds, located, outside-zone}
 use Rattle.judge.proofs.RowLaws.{node-at, shaped-at}
 use Rattle.judge.proofs.LandingLaws.{contained-at}
-use Rattle.judge.proofs.PartLaws.{Decides}
-
--- ---- what the square table of a row's reach decides
-
-pub record Reached (M : Model) (N : Node) (A : Action) (z : Square) : Type 0 where
-  pub blocked-pass : empty? z ≡ true → Empty (Reach M N A)
-  pub blocked-fail : empty? z ≡ false → Empty (Reach M N A) → ⊥
-  pub onward-pass : empty? z ≡ false → (mask : ℕ) (S : Zone) → GoodZone S → inside? (resetSquare mask z) (withBounds S universe) ≡ true →
-      Inside (ResetOf mask (Reach M N A)) (within S)
-  pub onward-fail : empty? z ≡ false → (mask : ℕ) (S : Zone) → GoodZone S → inside? (resetSquare mask z) (withBounds S universe) ≡ false →
-      Beyond (ResetOf mask (Reach M N A)) (within S)
-  pub part : empty? z ≡ false → (mask : ℕ) (S : Zone) → GoodZone S →
-      Decides (inBoth (ResetOf mask (Reach M N A)) (within S)) (common (resetSquare mask z) (withBounds S universe))
+use Rattle.judge.proofs.RowReach.{Reached}
+use Rattle.judge.proofs.OutsideLaws.{nowhere, somewhere}
 
 module _ (M : Model) (words : List ℕ) (m : ModelKept) (t : TableRead) (k : Kept) (x : Indexed M m) (good : GoodModel M) (W : Table)
     (i : TableIndexed W t k) (sh : Shaped M words W) where
@@ -84,32 +70,6 @@ module _ (M : Model) (words : List ℕ) (m : ModelKept) (t : TableRead) (k : Kep
 
       abbrev landed : Square
       landed = resetSquare (E .mask) reach
-
-      -- from an empty reach it cannot land outside
-      nowhere : empty? reach ≡ true → CanLandOutside M N A E → ⊥
-      nowhere e can = z .blocked-pass e .at (can .scale) (can .positive) (can .lands .before) (can .lands .was)
-
-      -- where not every landing is inside it can
-      somewhere : empty? reach ≡ false → inside? landed invariantTable ≡ false → CanLandOutside M N A E
-      unfolding within
-      somewhere e h =
-          let p : Beyond (landings M N A E) (within invariant) = z .onward-fail e (E .mask) invariant good-invariant h in
-          record {
-            scale = p .scale;
-            positive = p .positive;
-            valuation = p .valuation;
-            lands = p .holds;
-            outside = untrue (in? (p .scale) (p .valuation) invariant) (p .fails);
-          }
-
-      -- whether it can is known
-      known : Known M W N A E
-      known = by (empty? reach) refl (inside? landed invariantTable) refl
-        where
-          by : (d : Bool) → empty? reach ≡ d → (b : Bool) → inside? landed invariantTable ≡ b → Known M W N A E
-          by true e b o = inr (nowhere e)
-          by false e true o = inr (inside-cannot M W N A E (z .onward-pass e (E .mask) invariant good-invariant o))
-          by false e false o = inl (somewhere e o)
 
       module _ (s p : ℕ) (l : s < length (W .nodes)) where
         abbrev S : Successor
@@ -143,7 +103,7 @@ module _ (M : Model) (words : List ℕ) (m : ModelKept) (t : TableRead) (k : Kep
           unfolding landingsInside
           nothing-lands e =
               holds (nodeAt W s .value) (record { at = λ k k₁ v h. absurd (z .blocked-pass e .at k k₁ (h .0 .before) (h .0 .was)) })
-              (inr (nowhere e, refl))
+              (inr (nowhere good z E e, refl))
 
           module _ (filled : empty? reach ≡ false) where
             -- every landing is inside
@@ -153,7 +113,7 @@ module _ (M : Model) (words : List ℕ) (m : ModelKept) (t : TableRead) (k : Kep
               inside-held h =
                   holds (nodeAt W s .value)
                   (record { at = λ k k₁ v r. z .onward-pass filled (E .mask) zone good-zone h .at k k₁ v (r .0) })
-                  (inr (inside-cannot M W N A E all, refl))
+                  (inr (inside-cannot M N A E all, refl))
 
               inside-not-held : inside? landed zoneTable ≡ false → Comes E S (record { finding = finding.NotInside p; share = 0 })
               unfolding landingsInside
@@ -197,8 +157,8 @@ module _ (M : Model) (words : List ℕ) (m : ModelKept) (t : TableRead) (k : Kep
             (cond q (record { finding = finding.None; share = E .weight * t .whole }) (record { finding = finding.NotInside p; share = 0 })))
         rest at e true true q eh ej eq = inside-held at e (z .onward-pass e (E .mask) invariant good-invariant ej) eh
         rest at e false true q eh ej eq = inside-not-held at e (z .onward-pass e (E .mask) invariant good-invariant ej) eh
-        rest at e h false true eh ej eq = part-held at e (somewhere e ej) eq
-        rest at e h false false eh ej eq = part-not-held at e (somewhere e ej) eq
+        rest at e h false true eh ej eq = part-held at e (somewhere good z E e ej) eq
+        rest at e h false false eh ej eq = part-not-held at e (somewhere good z E e ej) eq
 
         by-tests : (at : nodeAt W s .location ≡ E .to) → empty? reach ≡ false → (h c j q : Bool) → inside? landed zoneTable ≡ h →
             inside? zoneTable invariantTable ≡ c → inside? landed invariantTable ≡ j →
@@ -238,7 +198,3 @@ module _ (M : Model) (words : List ℕ) (m : ModelKept) (t : TableRead) (k : Kep
                 let at : nodeAt W s .location ≡ E .to = eqb-true _ _ q in
                 rw (contained-is at) (by-tests at e _ _ _ _ refl refl refl refl)
             by false q d e = wrong-location (eqb-false _ _ q)
-
-    pub all-known : (Es : List Edge) → All (FormedEdge M) Es → All (Known M W N A) Es
-    all-known [] empty = empty
-    all-known (E ∷ Es) (more f fs) = more (known E f) (all-known Es fs)

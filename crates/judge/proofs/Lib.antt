@@ -3,6 +3,7 @@
 pub mod FindingLaws
 pub mod PartLaws
 pub mod RowReach
+pub mod OutsideLaws
 pub mod ReachSizes
 pub mod RowLaws
 pub mod LandingLaws

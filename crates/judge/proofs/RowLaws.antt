@@ -36,7 +36,7 @@ behind n at words ws e = sym (drop-drop n at words) ∙ ap (drop n) e
 -- ---- the nodes
 
 -- what holds of all holds of the one at i
-all-below : {A : Type 0} {P : A → Type 0} {xs : List A} (d : A) (i : ℕ) → All P xs → i < length xs → P (getD xs i d)
+pub all-below : {A : Type 0} {P : A → Type 0} {xs : List A} (d : A) (i : ℕ) → All P xs → i < length xs → P (getD xs i d)
 all-below d i empty l = absurd (omega arith)
 all-below d zero (more p ps) l = p
 all-below d (suc i) (more p ps) l = all-below d i ps (omega arith)

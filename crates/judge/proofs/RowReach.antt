@@ -47,6 +47,17 @@ throughout-from M k s (suc t) p q =
     (subst (λ n. within (locationAt M (s .location) .invariant) k (delayed (s .valuation) n)) (let e : suc t ≡ t + 1 = omega arith in e) q)))
     q
 
+-- what a square table decides of a row's reach
+pub record Reached (M : Model) (N : Node) (A : Action) (z : Square) : Type 0 where
+  pub blocked-pass : empty? z ≡ true → Empty (Reach M N A)
+  pub blocked-fail : empty? z ≡ false → Empty (Reach M N A) → ⊥
+  pub onward-pass : empty? z ≡ false → (mask : ℕ) (S : Zone) → GoodZone S → inside? (resetSquare mask z) (withBounds S universe) ≡ true →
+      Inside (ResetOf mask (Reach M N A)) (within S)
+  pub onward-fail : empty? z ≡ false → (mask : ℕ) (S : Zone) → GoodZone S → inside? (resetSquare mask z) (withBounds S universe) ≡ false →
+      Beyond (ResetOf mask (Reach M N A)) (within S)
+  pub part : empty? z ≡ false → (mask : ℕ) (S : Zone) → GoodZone S →
+      Decides (inBoth (ResetOf mask (Reach M N A)) (within S)) (common (resetSquare mask z) (withBounds S universe))
+
 module _ {M : Model} {m : Kept} (x : Indexed M m) (good : GoodModel M) (N : Node) (l : N .location < length (M .locations)) (z : GoodZone (N .zone))
     {a : ℕ} {A : Action} (i : ActionAt m a A) (g : GoodAction A) where
   abbrev invariant : Zone
@@ -151,11 +162,11 @@ module _ {M : Model} {m : Kept} (x : Indexed M m) (good : GoodModel M) (N : Node
   rowReach = common waited guardTable
 
   -- ---- blocked
-  pub blocked-yes : empty? rowReach ≡ true → Empty (Reach M N A)
+  blocked-yes : empty? rowReach ≡ true → Empty (Reach M N A)
   unfolding common
   blocked-yes = empty-yes fits row-spans
 
-  pub blocked-no : empty? rowReach ≡ false → Empty (Reach M N A) → ⊥
+  blocked-no : empty? rowReach ≡ false → Empty (Reach M N A) → ⊥
   unfolding common
   blocked-no = empty-no fits row-spans
 
@@ -166,17 +177,27 @@ module _ {M : Model} {m : Kept} (x : Indexed M m) (good : GoodModel M) (N : Node
     landings-span = spans-reset mask rowReach (tightened-good fits row-spans filled) (spans-tightened fits row-spans)
 
     module _ (S : Zone) (s : GoodZone S) where
-      pub onward-yes : inside? (resetSquare mask rowReach) (withBounds S universe) ≡ true → Inside (ResetOf mask (Reach M N A)) (within S)
+      onward-yes : inside? (resetSquare mask rowReach) (withBounds S universe) ≡ true → Inside (ResetOf mask (Reach M N A)) (within S)
       onward-yes = inside-yes landings-span (stands-bounds S s)
 
-      pub onward-no : inside? (resetSquare mask rowReach) (withBounds S universe) ≡ false → Beyond (ResetOf mask (Reach M N A)) (within S)
+      onward-no : inside? (resetSquare mask rowReach) (withBounds S universe) ≡ false → Beyond (ResetOf mask (Reach M N A)) (within S)
       unfolding common
       onward-no = beyond landings-span (stands-bounds S s) (tight-reset mask rowReach (tight fits row-spans filled))
 
       -- those that the zone S holds
-      pub part-decides : Decides (inBoth (ResetOf mask (Reach M N A)) (within S)) (common (resetSquare mask rowReach) (withBounds S universe))
+      part-decides : Decides (inBoth (ResetOf mask (Reach M N A)) (within S)) (common (resetSquare mask rowReach) (withBounds S universe))
       unfolding common
       part-decides =
           table-decides
           (small-met _ (small-reset _ (tightens-less 1 _ (omega arith) row-fits) mask) _ (tightens-fewer 1 3 _ (omega arith) (tightens-bounds S s)))
           (spans-met landings-span (stands-bounds S s))
+
+  -- the table decides
+  pub reached : Reached M N A rowReach
+  reached = record {
+    blocked-pass = blocked-yes;
+    blocked-fail = blocked-no;
+    onward-pass = onward-yes;
+    onward-fail = onward-no;
+    part = part-decides;
+  }

@@ -44,10 +44,11 @@ use Rattle.judge.specs.Walk.{successorsFrom, rowsFrom, rowsFinding, node
 use Rattle.judge.specs.declared.findings.Finding.{Finding}
 use Rattle.judge.specs.declared.findings.Finding.the-variants as finding
 use Rattle.judge.proofs.FindingLaws.{Finds, finds-first, none-found, decides, found-as}
-use Rattle.judge.proofs.EdgeLaws.{Reached, comes, all-known}
+use Rattle.judge.proofs.EdgeLaws.{comes}
 use Rattle.judge.proofs.RowLaws.{front, beyond, behind, node-at, shaped-at, ActionIs, actions-at, actions-count, edges-at}
 use Rattle.judge.proofs.PartLaws.{Decides, holding-decides, rest-decides}
-use Rattle.judge.proofs.RowReach.{blocked-yes, blocked-no, onward-yes, onward-no, part-decides}
+use Rattle.judge.proofs.RowReach.{Reached, reached}
+use Rattle.judge.proofs.OutsideLaws.{all-known}
 
 -- ---- the words from a place on
 
@@ -122,18 +123,12 @@ module _ (M : Model) (words : List ℕ) (m : ModelKept) (t : TableRead) (k : Kep
     abbrev rowReach : ℕ → Square
     rowReach a = common waited (zoneAt (m .zones) (guardsAt + a))
 
-    reached : (a : ℕ) (A : Action) → ActionIs M m a A → Reached M N A (rowReach a)
-    reached a A y = record {
-      blocked-pass = blocked-yes x good N (g .exists) (g .zone) (y .at) (y .good);
-      blocked-fail = blocked-no x good N (g .exists) (g .zone) (y .at) (y .good);
-      onward-pass = onward-yes x good N (g .exists) (g .zone) (y .at) (y .good);
-      onward-fail = onward-no x good N (g .exists) (g .zone) (y .at) (y .good);
-      part = part-decides x good N (g .exists) (g .zone) (y .at) (y .good);
-    }
+    row-reached : (a : ℕ) (A : Action) → ActionIs M m a A → Reached M N A (rowReach a)
+    row-reached a A y = reached x good N (g .exists) (g .zone) (y .at) (y .good)
 
     -- each row has a sum, and by `sum-one` no other
     pub row-sum : (a : ℕ) (A : Action) → ActionIs M m a A → (ss : List Successor) → (r : ℕ) × SumOf M W N A (A .edges) ss r
-    row-sum a A y ss = sum-there M W N A (A .edges) ss (all-known M words m t k x good W i sh N A (rowReach a) (reached a A y) (A .edges) (y .formed .edges))
+    row-sum a A y ss = sum-there M W N A (A .edges) ss (all-known good (row-reached a A y) (A .edges))
 
     -- n successors of the action a from a place on, where D is the denominator
     abbrev successorsFinding : ℕ → ℕ → ℕ → ℕ → Finding
@@ -171,12 +166,12 @@ module _ (M : Model) (words : List ℕ) (m : ModelKept) (t : TableRead) (k : Kep
         Finds (rowChecks M W N A (cond b (blockedRow at) (successorRow at (successorsOf (length (A .edges)) at ws)))) (rowFinding b a at)
     unfolding rowChecks RowStands findingAnswer
     row-found true a A at ws y d s =
-        let z = reached a A y in
+        let z = row-reached a A y in
         decides _ (finding.NotBlocked at) _ (z .blocked-pass) (z .blocked-fail) refl none-found
     row-found false a A at ws y d s =
         let ss : List Successor = successorsOf (length (A .edges)) at ws in
         found-as
-        (successors-found N A (rowReach a) (reached a A y) (M .denominator * N .value) at (SumFits M W N A ss) (A .edges)
+        (successors-found N A (rowReach a) (row-reached a A y) (M .denominator * N .value) at (SumFits M W N A ss) (A .edges)
         (getD (m .index .edges) a 0) at 0 ws (y .at .edges) (y .formed .edges) d (s .2)
         (λ r o.
         let none : 0 + r ≡ r = omega arith in
