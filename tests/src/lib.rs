@@ -1,6 +1,6 @@
 //! Outside evidence for the miss-chance judge: code that shares nothing with the proved crates.
 //!
-//! `reading` is an independent reading of document 01 and of document 02, cards 1, 3 and 4, `plain` a
+//! `reading` is an independent reading of document 01 and of document 02, cards 1 and 3 to 5, `plain` a
 //! plain judge written for speed. `plan` draws inputs (`models`, `explore`, `cuts`, `landings`, `edits`,
 //! `mutate`, `garbage`, `boundaries`, `questions`, `program_inputs`) and has the judge under test, the
 //! reading and the plain judge answer them (`comparer`). `histories` does the same with boards of

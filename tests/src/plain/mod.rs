@@ -5,6 +5,7 @@
 //! and its answers are compared like theirs.
 
 mod board;
+mod draft;
 mod few;
 mod judging;
 mod model;
@@ -13,6 +14,7 @@ mod table;
 mod zone;
 
 pub use board::{rank, submit, Slot};
+pub use draft::draft;
 pub use program::program;
 
 use judging::judge_table;

@@ -10,13 +10,22 @@ const NONE: Bound = i32::MAX;
 const AT_MOST_0: Bound = 1;
 const SIZE: usize = 5;
 const KIND: u32 = 5;
+/// The largest constant that a bound's word has room for, and negated the smallest.
+const FARTHEST: i32 = 4_095;
 
-#[derive(Clone, Copy)]
+/// The word of a bound that nothing meets: clock 1 at most -1.
+pub const NEVER: u32 = 0x5100_0FFF;
+
+#[derive(Clone, Copy, PartialEq, Eq)]
 pub struct Zone([[Bound; SIZE]; SIZE]);
 
 impl Zone {
     /// Every valuation: no clock is below 0, and no other bound is there.
     pub const ALL: Zone = Zone::all();
+
+    /// No valuation, as the bound of `NEVER` says it. No zone that is tightened and not empty is equal
+    /// to it.
+    pub const EMPTY: Zone = Zone::empty();
 
     const fn all() -> Zone {
         let mut bounds = [[NONE; SIZE]; SIZE];
@@ -27,6 +36,12 @@ impl Zone {
             clock += 1;
         }
         Zone(bounds)
+    }
+
+    const fn empty() -> Zone {
+        let mut zone = Zone::all();
+        zone.0[1][0] = -1;
+        zone
     }
 
     /// Adds the bounds that stand from a place on and hands back the place behind them. One that is
@@ -124,6 +139,51 @@ impl Zone {
         }
     }
 
+    /// Of a tightened zone: with the masked clocks set to 0, tightened.
+    pub fn reset(&self, clocks: u32, mask: u32) -> Zone {
+        let size = clocks as usize + 1;
+        let sources = sources(mask);
+        let mut after = Zone::ALL;
+        for (row, &i) in after.0.iter_mut().zip(&sources).take(size) {
+            for (bound, &j) in row.iter_mut().zip(&sources).take(size) {
+                *bound = self.0[i][j];
+            }
+        }
+        after
+    }
+
+    /// How many bounds there are between two different clocks; none if a word has no room for one.
+    pub fn count_bounds(&self, clocks: u32) -> Option<usize> {
+        let size = clocks as usize + 1;
+        let mut count = 0;
+        for (i, row) in self.0.iter().enumerate().take(size) {
+            for (j, &bound) in row.iter().enumerate().take(size) {
+                if i == j || bound == NONE {
+                    continue;
+                }
+                if !(-FARTHEST..=FARTHEST).contains(&(bound >> 1)) {
+                    return None;
+                }
+                count += 1;
+            }
+        }
+        Some(count)
+    }
+
+    /// Writes the words of these bounds from a place on; hands back the place behind them.
+    pub fn write_bounds(&self, clocks: u32, words: &mut [u32], mut place: usize) -> usize {
+        let size = clocks as usize + 1;
+        for (i, row) in self.0.iter().enumerate().take(size) {
+            for (j, &bound) in row.iter().enumerate().take(size) {
+                if i != j && bound != NONE {
+                    words[place] = word_of(i, j, bound);
+                    place += 1;
+                }
+            }
+        }
+        place
+    }
+
     /// Whether a zone that is tightened and not empty lies in an invariant, which bounds single clocks
     /// only, once the masked clocks are set to 0.
     pub fn lands_inside(&self, invariant: &Zone, mask: u32) -> bool {
@@ -186,6 +246,13 @@ pub fn clocks_of(word: u32) -> [usize; 2] {
 
 fn bound_of(word: u32) -> Bound {
     2 * ((word & 0x1FFF) as i32 - 4096) + (1 - (word >> 19 & 1) as i32)
+}
+
+/// The word of a bound that it has room for.
+fn word_of(i: usize, j: usize, bound: Bound) -> u32 {
+    let strict = (!bound & 1) as u32;
+    let shifted = ((bound >> 1) + 4096) as u32;
+    KIND << 28 | (i as u32) << 24 | (j as u32) << 20 | strict << 19 | shifted
 }
 
 /// What holds, of the two clocks in the other order, where a bound does not.

@@ -80,6 +80,11 @@ impl Zone {
         self.empty || (!other.empty && self.pairs().all(within))
     }
 
+    /// Whether both zones have the same valuations, at every scale.
+    pub fn same_as(&self, other: &Zone) -> bool {
+        self.inside(other) && other.inside(self)
+    }
+
     /// The valuations in both zones.
     pub fn meet(&self, other: &Zone) -> Zone {
         self.landing_in(other, 0)
@@ -134,16 +139,28 @@ impl Zone {
         }
         let every = Zone::all(self.clocks);
         let telling = |&(i, j): &(usize, usize)| self.limits[i][j] < every.limits[i][j];
-        let bound = |(i, j): (usize, usize)| {
-            let Limit(limit) = self.limits[i][j];
-            Bound {
-                i,
-                j,
-                d: limit >> 1,
-                strict: limit & 1 == 0,
-            }
-        };
-        self.pairs().filter(telling).map(bound).collect()
+        let pairs = self.pairs().filter(telling);
+        pairs.map(|(i, j)| self.bound(i, j)).collect()
+    }
+
+    /// Every limit that the tightened zone has between two different clocks, by the first, then by the
+    /// second; those that hold in every zone, such as no clock being below 0, are among them. Asked
+    /// only of a zone that is not empty.
+    pub fn all_bounds(&self) -> Vec<Bound> {
+        let limited = |&(i, j): &(usize, usize)| i != j && self.limits[i][j] != Limit::NONE;
+        let pairs = self.pairs().filter(limited);
+        pairs.map(|(i, j)| self.bound(i, j)).collect()
+    }
+
+    /// The limit of clock `i` minus clock `j`, which there is, as a bound.
+    fn bound(&self, i: usize, j: usize) -> Bound {
+        let Limit(limit) = self.limits[i][j];
+        Bound {
+            i,
+            j,
+            d: limit >> 1,
+            strict: limit & 1 == 0,
+        }
     }
 
     /// All pairs of clocks, clock 0 among them.

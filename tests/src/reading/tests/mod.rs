@@ -3,6 +3,7 @@
 
 mod board;
 mod cuts;
+mod draft;
 mod judging;
 mod landings;
 mod model;
