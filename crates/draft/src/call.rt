@@ -53,7 +53,7 @@ pub(crate) fn model_refused(answer: ModelAnswer) -> DraftAnswer
 
 // The refusal of exploring, handed on.
 pub(crate) fn stopped(stop: Stop) -> DraftAnswer
-    ensures { λ r. ⌜ HandsOn (stopAnswer stop tt) (draftAnswer r) ⌝ }
+    ensures { λ r. ⌜ HandsOn (stopAnswer stop 0) (draftAnswer r) ⌝ }
 {
     match stop {
         Stop::Nodes => DraftAnswer::TooManyNodes,
