@@ -144,10 +144,16 @@ module _ {l C : ℕ} {y : Square} {p size : ℕ} {list : List ℕ} (t : TakenAt 
     here : {Z : Zone} → saidAt C y p ≡ Z → Taken l (collected y (pairs C)) (Z ++ rest) p size list
     here e = rw (next-cell C y p h, e) at (t .taken)
 
+    test : {c : Bool} → says? C y p ≡ c → (inner? C p && finite? (cellAt y p)) ≡ c
+    test e = rw (back32 (cellAt y p .key) fits) at e
+
     -- the cell says nothing
     pub skipped : says? C y p ≡ false → TakenAt l C y (p + 1) size list
     unfolding saidOf
-    skipped e = record { within = omega arith; taken = none-more (here (nothing (inner? C p) (finite? (cellAt y p)) (rw (back32 (cellAt y p .key) fits) at e))) }
+    skipped e = record {
+      within = omega arith;
+      taken = none-more (here (nothing (inner? C p) (finite? (cellAt y p)) (test e)));
+    }
       where
         nothing : (c f : Bool) → (c && f) ≡ false → cond c (cond f (bound ∷ []) []) [] ≡ []
         nothing true true e = true-false e
@@ -158,7 +164,7 @@ module _ {l C : ℕ} {y : Square} {p size : ℕ} {list : List ℕ} (t : TakenAt 
     module _ (e : says? C y p ≡ true) where
       says : Taken l (collected y (pairs C)) (bound ∷ rest) p size list
       unfolding saidOf
-      says = here (one (inner? C p) (finite? (cellAt y p)) (rw (back32 (cellAt y p .key) fits) at e))
+      says = here (one (inner? C p) (finite? (cellAt y p)) (test e))
         where
           one : (c f : Bool) → (c && f) ≡ true → cond c (cond f (bound ∷ []) []) [] ≡ bound ∷ []
           one true true e = refl

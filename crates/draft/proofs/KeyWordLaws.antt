@@ -1,6 +1,6 @@
 -- The word of a bound, worked out from the bound's key. Assumes nothing.
 use Prim.Native.Nat.{ℕ, zero, suc, _+_, _-_, _*_, _/_, _%_, _^_, _≤_, _<_}
-use mathlib.Core.Path.{_≡_, refl}
+use mathlib.Core.Path.{_≡_, refl, _∙_}
 use mathlib.Core.Bool.{Bool, true, false, cond, _&&_}
 use native.Mathlib.Omega.{arith}
 use lib.Dec.{T, eqb, leb, leb→le, le→leb}
@@ -26,8 +26,8 @@ same-test false false f g = refl
 
 -- ---- d is at most 4,095 either way exactly where the key lies from -8,190 to 8,191
 pub record Narrow (z : ℤ) : Type 0 where
-  pub low : dn z < 8191 + up z
-  pub high : up z < 8192 + dn z
+  low : dn z < 8191 + up z
+  high : up z < 8192 + dn z
 
 narrow→ : (z : ℤ) → natAbs (half z) ≤ 4095 → Narrow z
 narrow→ z h = record {
@@ -63,19 +63,26 @@ narrow-test a h = rw (back32 (a .key) h) (same-test _ _ there back)
         let n = narrow→ z (leb→le (natAbs (half z)) 4095 t) in
         and (ltZ (negsuc 8190) z) (ltZ z (pos 8192)) (→ltZ (negsuc 8190) z (omega arith)) (→ltZ z (pos 8192) (omega arith))
 
+-- ---- a number that is not negative
+record NotNegative (y : ℤ) : Type 0 where
+  test : T (nonNeg y)
+  abs : natAbs y ≡ up y
+  size : mag y ≡ up y
+  none : dn y ≡ 0
+
+not-negative : (y : ℤ) → dn y ≤ up y → NotNegative y
+not-negative (pos m) l = record { test = tt; abs = refl; size = refl; none = refl }
+not-negative (negsuc m) l = absurd (omega arith)
+
 -- ---- 8,192 more than the key of a narrow bound is twice the word's field, and the lowest bit
 twice : (z : ℤ) → Narrow z → natAbs (z +ℤ pos 8192) ≡ 2 * natAbs (half z +ℤ pos 4096) + lowest z
 twice z n =
     let p = parts-add z (pos 8192) in
     let q = parts-add (half z) (pos 4096) in
     let t = halved z in
-    let r = positive-abs (half z +ℤ pos 4096) (omega arith) in
-    let s = positive-abs (z +ℤ pos 8192) (omega arith) in
+    let r = not-negative (half z +ℤ pos 4096) (omega arith) in
+    let s = not-negative (z +ℤ pos 8192) (omega arith) in
     omega arith
-  where
-    positive-abs : (y : ℤ) → dn y ≤ up y → (natAbs y ≡ up y) × (dn y ≡ 0)
-    positive-abs (pos m) l = (refl, refl)
-    positive-abs (negsuc m) l = absurd (omega arith)
 
 module _ (z : ℤ) (h : mag z < 2 ^ 31) (n : Narrow z) where
   abbrev raised : ℤ
@@ -84,34 +91,26 @@ module _ (z : ℤ) (h : mag z < 2 ^ 31) (n : Narrow z) where
   raised-is : raised ≡ z +ℤ pos 8192
   raised-is = rw (back32 z h) refl
 
-  small : (y : ℤ) → up y < 2 ^ 31 + dn y → dn y ≤ up y → mag y < 2 ^ 31
-  small (pos m) k l = omega arith
-  small (negsuc m) k l = omega arith
-
-  positive : (y : ℤ) → dn y ≤ up y → T (nonNeg y)
-  positive (pos m) l = tt
-  positive (negsuc m) l = absurd (omega arith)
+  sum : NotNegative (z +ℤ pos 8192)
+  sum = not-negative (z +ℤ pos 8192) (omega (arith, parts-add z (pos 8192)))
 
   pub raised-fits : SFits w32 raised
-  raised-fits =
-      rw raised-is (record { sfits = let p = parts-add z (pos 8192) in small (z +ℤ pos 8192) (omega arith) (omega arith) })
+  raised-fits = rw raised-is (record { sfits = omega (arith, sum, parts-add z (pos 8192)) })
 
   abbrev field : ℕ
   field = natAbs (toZ w32 (ofZ w32 raised))
 
-  field-is : field ≡ natAbs (z +ℤ pos 8192)
-  field-is = rw (toZ-ofZ raised-fits, raised-is)
+  back : toZ w32 (ofZ w32 raised) ≡ z +ℤ pos 8192
+  back = toZ-ofZ raised-fits ∙ raised-is
 
   field-parts : field ≡ 2 * natAbs (half z +ℤ pos 4096) + lowest z
-  field-parts = rw field-is (twice z n)
+  field-parts = rw back (twice z n)
 
-  pub field-small : field < 16384
-  field-small = let e = field-is in let p = parts-add z (pos 8192) in let q = abs-small (z +ℤ pos 8192) {n = 16384} (omega arith) (omega arith) in omega arith
+  pub field-small : field < 2 ^ 14
+  field-small = rw back (omega (arith, sum, parts-add z (pos 8192)))
 
   pub cast-fits : T (nonNeg (toZ w32 (ofZ w32 raised))) × Fits w32 field
-  cast-fits =
-      let p = parts-add z (pos 8192) in
-      let l = field-small in (rw (toZ-ofZ raised-fits, raised-is) (positive (z +ℤ pos 8192) (omega arith)), omega arith)
+  cast-fits = let l = field-small in (rw back (sum .test), omega arith)
 
 even-bit : (n : ℕ) → n < 2 → (1 - n) * 2 ^ 19 ≡ cond (eqb n 0) (2 ^ 19) 0
 even-bit zero h = refl
@@ -132,5 +131,6 @@ word-is i j a h n =
     word-sum i j (field (a .key) h n) (natAbs (half (a .key) +ℤ pos 4096)) (lowest (a .key)) (cond (eqb (lowest (a .key)) 0) (2 ^ 19) 0)
     (field-parts (a .key) h n) l (even-bit (lowest (a .key)) l)
 
-pub word-fits : (i j f : ℕ) → i < 5 → j < 5 → f < 16384 → Fits w32 (5 * 2 ^ 28 + (i * 2 ^ 24 + j * 2 ^ 20) + (1 - f % 2) * 2 ^ 19 + f / 2)
+-- the sum fits
+pub word-fits : (i j f : ℕ) → i < 5 → j < 5 → f < 2 ^ 14 → Fits w32 (5 * 2 ^ 28 + (i * 2 ^ 24 + j * 2 ^ 20) + (1 - f % 2) * 2 ^ 19 + f / 2)
 word-fits i j f h k l = omega arith

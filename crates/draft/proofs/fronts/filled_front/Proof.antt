@@ -28,12 +28,6 @@ returns c =
 bound-word-requires : tie.Need-bound-word-requires Inv-loop μ-loop
 bound-word-requires c κs = (omega arith, omega arith, rw (sym (c .before .is-narrow .ensures) ∙ not-false _ (c .if2 .left)) tt)
 
-array-write-list-2 : tie.Need-array-write-list-2 Inv-loop μ-loop
-array-write-list-2 c = omega arith
-
-add-size : tie.Need-add-size Inv-loop μ-loop
-add-size c = omega arith
-
 loop-again : tie.Need-loop-again Inv-loop μ-loop
 loop-again c =
     let cell = c .before in
@@ -52,5 +46,5 @@ pub filled-front-spec : {M : Type 1} → statement M
 filled-front-spec =
     tie.close
     (tie.spec Inv-loop μ-loop (λ c. search needs) (λ c. search needs) (λ c. search needs) loop-holds (λ c. search needs) (λ c. search needs)
-    (λ c κs. search needs) returns bound-word-requires (λ c. search needs) array-write-list-2 add-size (λ c. search needs)
+    (λ c κs. search needs) returns bound-word-requires (λ c. search needs) (λ c. search needs) (λ c. search needs) (λ c. search needs)
     (λ c. search needs) loop-again returns-2)
