@@ -210,19 +210,25 @@ module _ (nodes : List ℕ) (n size : ℕ) (ws : List ℕ) (h : HasNode nodes n)
         let t = length-take-le size ws fits in
         same-end (frontAt nodes n) (take size ws) p (omega arith) (omega arith)
 
--- ---- the first node with these words
-module _ (ws : List ℕ) (fs : List (List ℕ)) (n : ℕ) where
-  pub known-here : n < length fs → sameWords? (getD fs n []) ws ≡ true → knownFrom ws n (drop n fs) ≡ known.At n
-  unfolding knownFrom
-  known-here h e = rw (drop-cons fs n [] h, e)
+-- ---- the first node with these words, from node n on
+module _ (ws nodes : List ℕ) (count n : ℕ) where
+  from-here : n < count → drop n (frontsOf nodes count) ≡ frontAt nodes n ∷ drop (n + 1) (frontsOf nodes count)
+  from-here h =
+      let s = fronts-length nodes count in
+      drop-cons (frontsOf nodes count) n [] (omega arith) ∙ rw (add-one n, fronts-at nodes count n h)
 
-  pub known-next : n < length fs → sameWords? (getD fs n []) ws ≡ false → knownFrom ws n (drop n fs) ≡ knownFrom ws (n + 1) (drop (n + 1) fs)
+  pub known-here : n < count → sameWords? (frontAt nodes n) ws ≡ true → knownFrom ws n (drop n (frontsOf nodes count)) ≡ known.At n
   unfolding knownFrom
-  known-next h e = rw (add-one n, drop-cons fs n [] h, e)
+  known-here h e = rw (from-here h, e)
 
-  pub known-end : length fs ≤ n → knownFrom ws n (drop n fs) ≡ known.Nothing
+  pub known-next : n < count → sameWords? (frontAt nodes n) ws ≡ false →
+      knownFrom ws n (drop n (frontsOf nodes count)) ≡ knownFrom ws (n + 1) (drop (n + 1) (frontsOf nodes count))
   unfolding knownFrom
-  known-end h = rw (drop-of-length-le fs h)
+  known-next h e = rw (from-here h, e, add-one n)
+
+  pub known-end : count ≤ n → knownFrom ws n (drop n (frontsOf nodes count)) ≡ known.Nothing
+  unfolding knownFrom
+  known-end h = rw (drop-of-length-le (frontsOf nodes count) {i = n} (rw (fronts-length nodes count) h))
 
 -- its number is one of theirs
 pub known-below : (ws : List ℕ) (n : ℕ) (fs : List (List ℕ)) (k : ℕ) → knownFrom ws n fs ≡ known.At k → k < n + length fs
@@ -236,28 +242,35 @@ known-below ws n (f ∷ fs) k e = by (sameWords? f ws) (λ g. let l = known-belo
     by false rest g = rest g
 
 -- ---- the node that a zone gets
-module _ (narrow : Bool) (ws : List ℕ) (fs : List (List ℕ)) where
-  pub added-full : length fs ≡ 64 → addedTo narrow ws fs ≡ record { stop = stop.Nodes; number = 0; fronts = fs }
+pub still : (nodes : List ℕ) (count : ℕ) → Holds nodes count → StillHolds nodes nodes count
+still nodes count h = record { holds = h; length = refl }
+
+module _ (narrow : Bool) (ws nodes : List ℕ) (count : ℕ) where
+  pub added-full : count ≡ 64 → record { stop = stop.Nodes; number = 0; fronts = frontsOf nodes count } ≡ addedTo narrow ws (frontsOf nodes count)
   unfolding addedTo
-  added-full e = rw (le-ltb (length fs) 64 (omega arith))
+  added-full e = let s = fronts-length nodes count in rw (le-ltb (length (frontsOf nodes count)) 64 (omega arith))
 
-  module _ (h : length fs < 64) where
-    pub added-wide : narrow ≡ false → addedTo narrow ws fs ≡ record { stop = stop.Bounds; number = 0; fronts = fs }
+  module _ (h : count < 64) where
+    pub added-wide : narrow ≡ false → record { stop = stop.Bounds; number = 0; fronts = frontsOf nodes count } ≡ addedTo narrow ws (frontsOf nodes count)
     unfolding addedTo
-    added-wide e = rw (lt-ltb (length fs) 64 h, e)
+    added-wide e = let s = fronts-length nodes count in rw (lt-ltb (length (frontsOf nodes count)) 64 (omega arith), e)
 
-    pub added-new : narrow ≡ true → addedTo narrow ws fs ≡ record { stop = stop.None; number = length fs; fronts = fs ++ (ws ∷ []) }
+    pub added-new : (fs : List (List ℕ)) → narrow ≡ true → fs ≡ frontsOf nodes count ++ (ws ∷ []) →
+        record { stop = stop.None; number = count; fronts = fs } ≡ addedTo narrow ws (frontsOf nodes count)
     unfolding addedTo
-    added-new e = rw (lt-ltb (length fs) 64 h, e)
+    added-new fs e f =
+        let s = fronts-length nodes count in
+        rw (lt-ltb (length (frontsOf nodes count)) 64 (omega arith), e, f, s)
 
-  pub placed-known : (n : ℕ) → narrow ≡ true → knownFrom ws 0 fs ≡ known.At n → placedIn narrow ws fs ≡ record { stop = stop.None; number = n; fronts = fs }
+module _ (narrow : Bool) (ws : List ℕ) (fs : List (List ℕ)) where
+  pub placed-known : (n : ℕ) → narrow ≡ true → known.At n ≡ knownFrom ws 0 fs → record { stop = stop.None; number = n; fronts = fs } ≡ placedIn narrow ws fs
   unfolding placedIn knownOr
-  placed-known n e k = rw (e, k)
+  placed-known n e k = rw (e, ← k)
 
-  pub placed-new : narrow ≡ true → knownFrom ws 0 fs ≡ known.Nothing → placedIn narrow ws fs ≡ addedTo narrow ws fs
+  pub placed-new : narrow ≡ true → known.Nothing ≡ knownFrom ws 0 fs → addedTo narrow ws fs ≡ placedIn narrow ws fs
   unfolding placedIn knownOr
-  placed-new e k = rw (e, k)
+  placed-new e k = rw (e, ← k)
 
-  pub placed-wide : narrow ≡ false → placedIn narrow ws fs ≡ addedTo narrow ws fs
+  pub placed-wide : narrow ≡ false → addedTo narrow ws fs ≡ placedIn narrow ws fs
   unfolding placedIn
   placed-wide e = rw e
