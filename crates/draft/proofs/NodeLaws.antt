@@ -1,6 +1,6 @@
 -- Laws of the nodes in a store: the words of a node, the nodes after one more is put behind them, and the search for a known node. Assumes nothing.
 use Prim.Native.Nat.{ℕ, zero, suc, _+_, _*_, _-_, _≤_, _<_}
-use mathlib.Core.Path.{_≡_, refl, sym, ap, ap₂, subst, _∙_}
+use mathlib.Core.Path.{_≡_, refl, sym, ap, ap₂, _∙_}
 use mathlib.Core.Bool.{Bool, true, false, cond, _&&_}
 use mathlib.Core.List.{List, [], _∷_, _++_}
 use mathlib.Core.Logic.{_⊎_, inl, inr}
@@ -10,12 +10,11 @@ use native.Mathlib.Omega.{arith}
 use borrow.Author.Tests.{eq-eqb, ne-eqb, lt-ltb, le-ltb}
 use lib.Dec.{eqb}
 use lib.ListN.{length, getD, take, drop, set, length-drop, length-set, drop-of-length-le}
-use lib.Seq.{getD-take, getD-drop, getD-set-same, getD-set-other, length-take-le, drop-cons, drop-drop, ext-getD}
+use lib.Seq.{getD-take, getD-drop, getD-set-same, getD-set-other, length-take-le, drop-cons, drop-drop, take-nil, ext-getD}
 use Rattle.zone.specs.Squares.{listOf}
 use Rattle.zone.proofs.Loops.{listOf-length, listOf-at, listOf-same}
 use Rattle.zone.proofs.Integers.{lt-or-ge}
-use Rattle.draft.specs.Nodes.{frontAt, frontsOf, HasNode, Holds, StillHolds, sameWords?, knownFrom, Placing, addedTo, placedIn, knownOr}
-use Rattle.draft.specs.declared.nodes.Known.{Known}
+use Rattle.draft.specs.Nodes.{frontAt, frontsOf, HasNode, Holds, StillHolds, sameWords?, knownFrom, addedTo, placedIn, knownOr}
 use Rattle.draft.specs.declared.nodes.Known.the-variants as known
 use Rattle.draft.specs.declared.nodes.Stop.the-variants as stop
 
@@ -40,11 +39,7 @@ part (suc k) at nodes h =
     rw (e, f, ← drop-drop 1 (at + 1) nodes) (shorter (drop (at + 1) nodes))
   where
     shorter : (ws : List ℕ) → take k (drop 1 ws) ≡ drop 1 (take (suc k) ws)
-    shorter [] = let e : take k [] ≡ [] = none k in e
-      where
-        none : (k : ℕ) → _≡_ {A = List ℕ} (take k []) []
-        none zero = refl
-        none (suc k) = refl
+    shorter [] = take-nil k
     shorter (w ∷ ws) = refl
 
 pub bound-words : (nodes : List ℕ) (n : ℕ) → HasNode nodes n →
@@ -60,13 +55,13 @@ pub fronts-at : (nodes : List ℕ) (count n : ℕ) → n < count → getD (front
 fronts-at nodes count n h = listOf-at [] (frontAt nodes) count n h
 
 -- and of one node more
-more : {A : Type 0} (f : ℕ → A) (n p : ℕ) → listOf f (suc n) p ≡ listOf f n p ++ (f (p + n) ∷ [])
+pub listOf-more : {A : Type 0} (f : ℕ → A) (n p : ℕ) → listOf f (suc n) p ≡ listOf f n p ++ (f (p + n) ∷ [])
 unfolding listOf
-more f zero p = rw (add-zero p)
-more f (suc n) p = rw (add-suc p n, ← suc-add p n) (ap (λ (r : List _). f p ∷ r) (more f n (suc p)))
+listOf-more f zero p = rw (add-zero p)
+listOf-more f (suc n) p = rw (add-suc p n, ← suc-add p n) (ap (λ (r : List _). f p ∷ r) (listOf-more f n (suc p)))
 
 pub fronts-more : (nodes : List ℕ) (count : ℕ) → frontsOf nodes (count + 1) ≡ frontsOf nodes count ++ (frontAt nodes count ∷ [])
-fronts-more nodes count = rw (add-one count) (more (frontAt nodes) count 0 ∙ rw (zero-add count))
+fronts-more nodes count = rw (add-one count) (listOf-more (frontAt nodes) count 0 ∙ rw (zero-add count))
 
 -- ---- words put from an index on: the first p stand there, and those before the index are as they were
 pub record Putting (old : List ℕ) (at : ℕ) (ws : List ℕ) (p : ℕ) (nodes : List ℕ) : Type 0 where
@@ -94,58 +89,61 @@ module _ (old : List ℕ) (at : ℕ) (ws : List ℕ) where
           rw q (getD-set-same nodes (at + p) v 0 (omega arith) ∙ e)
 
 -- ---- a node put behind so many: first the number of its words, then these
-module _ (old : List ℕ) (count size : ℕ) {ws : List ℕ} {p : ℕ} {nodes : List ℕ} (t : Putting (set old (count * 27) size) (count * 27 + 1) ws p nodes) where
-  pub put-length : length nodes ≡ length old
-  put-length = t .same ∙ length-set old (count * 27) size
+module _
+    (old : List ℕ) (count size : ℕ) {ws : List ℕ} {p : ℕ} {nodes : List ℕ}
+    (t : Putting (set old (count * 27) size) (count * 27 + 1) ws p nodes)
+  where
+    pub put-length : length nodes ≡ length old
+    put-length = t .same ∙ length-set old (count * 27) size
 
-  -- the nodes before it are as they were
-  kept-word : (k : ℕ) → k < count * 27 → getD nodes k 0 ≡ getD old k 0
-  kept-word k l = t .before k (omega arith) ∙ getD-set-other old (count * 27) k size 0 (λ e. omega arith)
+    -- the nodes before it are as they were
+    kept-word : (k : ℕ) → k < count * 27 → getD nodes k 0 ≡ getD old k 0
+    kept-word k l = t .before k (omega arith) ∙ getD-set-other old (count * 27) k size 0 (λ e. omega arith)
 
-  kept-node : (n : ℕ) → n < count → HasNode old n → HasNode nodes n
-  kept-node n l h =
-      let e = kept-word (n * 27) (omega arith) in
-      let s = put-length in
-      record { room = let r = h .room in omega arith; few = rw e (h .few); some = rw e (h .some) }
+    kept-node : (n : ℕ) → n < count → HasNode old n → HasNode nodes n
+    kept-node n l h =
+        let e = kept-word (n * 27) (omega arith) in
+        let s = put-length in
+        record { room = let r = h .room in omega arith; few = rw e (h .few); some = rw e (h .some) }
 
-  kept-front : (n : ℕ) → n < count → HasNode old n → frontAt nodes n ≡ frontAt old n
-  kept-front n l h =
-      let e = kept-word (n * 27) (omega arith) in
-      let s = front-length nodes n (kept-node n l h) in
-      ext-getD 0 (frontAt nodes n) (frontAt old n) (s ∙ e ∙ sym (front-length old n h))
-      (λ k m. word-at nodes n k (omega arith) ∙ kept-word (n * 27 + 1 + k) (let few = h .few in omega arith) ∙ sym (word-at old n k (omega arith)))
+    kept-front : (n : ℕ) → n < count → HasNode old n → frontAt nodes n ≡ frontAt old n
+    kept-front n l h =
+        let e = kept-word (n * 27) (omega arith) in
+        let s = front-length nodes n (kept-node n l h) in
+        ext-getD 0 (frontAt nodes n) (frontAt old n) (s ∙ e ∙ sym (front-length old n h))
+        (λ k m. word-at nodes n k (omega arith) ∙ kept-word (n * 27 + 1 + k) (let few = h .few in omega arith) ∙ sym (word-at old n k (omega arith)))
 
-  module _ (fits : size ≤ 26) (some : 1 ≤ size) (limit : count < 64) (h : Holds old count) where
-    head : getD nodes (count * 27) 0 ≡ size
-    head = t .before (count * 27) (omega arith) ∙ getD-set-same old (count * 27) size 0 (let r = h .room in omega arith)
+    module _ (fits : size ≤ 26) (some : 1 ≤ size) (limit : count < 64) (h : Holds old count) where
+      head : getD nodes (count * 27) 0 ≡ size
+      head = t .before (count * 27) (omega arith) ∙ getD-set-same old (count * 27) size 0 (let r = h .room in omega arith)
 
-    new-node : HasNode nodes count
-    new-node = let s = put-length in let r = h .room in record { room = omega arith; few = rw head fits; some = rw head some }
+      new-node : HasNode nodes count
+      new-node = let s = put-length in let r = h .room in record { room = omega arith; few = rw head fits; some = rw head some }
 
-    pub put-holds : StillHolds old nodes (count + 1)
-    put-holds = record {
-      holds = record { limit = omega arith; room = let s = put-length in let r = h .room in omega arith; nodes = λ n m. by n (lt-or-ge n count) m };
-      length = put-length;
-    }
-      where
-        by : (n : ℕ) → (n < count) ⊎ (count ≤ n) → n < count + 1 → HasNode nodes n
-        by n (inl m) g = kept-node n m (h .nodes n m)
-        by n (inr m) g = let e : n ≡ count = omega arith in rw e new-node
+      pub put-holds : StillHolds old nodes (count + 1)
+      put-holds = record {
+        holds = record { limit = omega arith; room = let s = put-length in let r = h .room in omega arith; nodes = λ n m. by n (lt-or-ge n count) m };
+        length = put-length;
+      }
+        where
+          by : (n : ℕ) → (n < count) ⊎ (count ≤ n) → n < count + 1 → HasNode nodes n
+          by n (inl m) g = kept-node n m (h .nodes n m)
+          by n (inr m) g = let e : n ≡ count = omega arith in rw e new-node
 
-    module _ (size-of : length ws ≡ 26) (all : 26 ≤ p) where
-      new-front : frontAt nodes count ≡ take size ws
-      new-front =
-          let q = head in
-          let s = front-length nodes count new-node in
-          ext-getD 0 (frontAt nodes count) (take size ws) (s ∙ head ∙ sym (length-take-le size ws (omega arith)))
-          (λ k m. word-at nodes count k (omega arith) ∙ t .words k (omega arith) ∙ sym (getD-take size ws k 0 (omega arith)))
+      module _ (size-of : length ws ≡ 26) (all : 26 ≤ p) where
+        new-front : frontAt nodes count ≡ take size ws
+        new-front =
+            let q = head in
+            let s = front-length nodes count new-node in
+            ext-getD 0 (frontAt nodes count) (take size ws) (s ∙ head ∙ sym (length-take-le size ws (omega arith)))
+            (λ k m. word-at nodes count k (omega arith) ∙ t .words k (omega arith) ∙ sym (getD-take size ws k 0 (omega arith)))
 
-      pub put-fronts : frontsOf nodes (count + 1) ≡ frontsOf old count ++ (take size ws ∷ [])
-      put-fronts =
-          fronts-more nodes count
-          ∙ ap₂ (λ (fs : List (List ℕ)) (f : List ℕ). fs ++ (f ∷ []))
-          (listOf-same (frontAt nodes) (frontAt old) count 0 (λ n l. kept-front n (omega arith) (h .nodes n (omega arith))))
-          new-front
+        pub put-fronts : frontsOf nodes (count + 1) ≡ frontsOf old count ++ (take size ws ∷ [])
+        put-fronts =
+            fronts-more nodes count
+            ∙ ap₂ (λ (fs : List (List ℕ)) (f : List ℕ). fs ++ (f ∷ []))
+            (listOf-same (frontAt nodes) (frontAt old) count 0 (λ n l. kept-front n (omega arith) (h .nodes n (omega arith))))
+            new-front
 
 -- ---- whether two lists of words are the same
 module _ (xs ys : List ℕ) (p : ℕ) where
@@ -198,7 +196,8 @@ module _ (nodes : List ℕ) (n size : ℕ) (ws : List ℕ) (h : HasNode nodes n)
         let t = length-take-le size ws fits in
         same-next (frontAt nodes n) (take size ws) p (omega arith) (omega arith) (here l ∙ q ∙ sym (getD-take size ws p 0 l))
 
-    pub word-not : p < size → (getD nodes (n * 27 + 1 + p) 0 ≡ getD ws p 0 → ⊥) → sameWords? (drop p (frontAt nodes n)) (drop p (take size ws)) ≡ false
+    pub word-not : p < size → (getD nodes (n * 27 + 1 + p) 0 ≡ getD ws p 0 → ⊥) →
+        sameWords? (drop p (frontAt nodes n)) (drop p (take size ws)) ≡ false
     word-not l d =
         let s = front-size in
         let t = length-take-le size ws fits in
@@ -251,7 +250,8 @@ module _ (narrow : Bool) (ws nodes : List ℕ) (count : ℕ) where
   added-full e = let s = fronts-length nodes count in rw (le-ltb (length (frontsOf nodes count)) 64 (omega arith))
 
   module _ (h : count < 64) where
-    pub added-wide : narrow ≡ false → record { stop = stop.Bounds; number = 0; fronts = frontsOf nodes count } ≡ addedTo narrow ws (frontsOf nodes count)
+    pub added-wide : narrow ≡ false →
+        record { stop = stop.Bounds; number = 0; fronts = frontsOf nodes count } ≡ addedTo narrow ws (frontsOf nodes count)
     unfolding addedTo
     added-wide e = let s = fronts-length nodes count in rw (lt-ltb (length (frontsOf nodes count)) 64 (omega arith), e)
 
@@ -263,7 +263,8 @@ module _ (narrow : Bool) (ws nodes : List ℕ) (count : ℕ) where
         rw (lt-ltb (length (frontsOf nodes count)) 64 (omega arith), e, f, s)
 
 module _ (narrow : Bool) (ws : List ℕ) (fs : List (List ℕ)) where
-  pub placed-known : (n : ℕ) → narrow ≡ true → known.At n ≡ knownFrom ws 0 fs → record { stop = stop.None; number = n; fronts = fs } ≡ placedIn narrow ws fs
+  pub placed-known : (n : ℕ) → narrow ≡ true → known.At n ≡ knownFrom ws 0 fs →
+      record { stop = stop.None; number = n; fronts = fs } ≡ placedIn narrow ws fs
   unfolding placedIn knownOr
   placed-known n e k = rw (e, ← k)
 

@@ -1,6 +1,4 @@
 -- Proof of `add`: the store is full, or the bounds are not narrow, or the node is put.
-use mathlib.Core.Path.{_≡_}
-use mathlib.Core.Bool.{true}
 use native.Mathlib.Omega.{arith}
 use borrow.Author.Needs.{needs}
 use borrow.Author.Tests.{not-true, not-false}
@@ -19,7 +17,8 @@ returns-2 c =
     let start = c .before .before .before .before in
     let args = start .args in
     let h = start .pre .0 .limit in
-    (still (args .nodes .now) (args .count) (start .pre .0), (omega arith, added-wide (args .front .narrow) _ (args .nodes .now) (args .count) (omega arith) (not-true _ (c .if2 .taken))))
+    let wide = not-true _ (c .if2 .taken) in
+    (still (args .nodes .now) (args .count) (start .pre .0), (omega arith, added-wide _ _ (args .nodes .now) (args .count) (omega arith) wide))
 
 put-node-requires : tie.Need-put-node-requires
 put-node-requires c κs =
@@ -33,7 +32,9 @@ returns-3 c =
     let start = put .before .before .before .before .before .before in
     let args = start .args in
     let h = start .pre .0 .limit in
-    (put .put-node .ensures .0, (omega arith, added-new (args .front .narrow) _ (args .nodes .now) (args .count) (omega arith) _ (not-false _ (put .before .before .if2 .left)) (put .put-node .ensures .1)))
+    let narrow = not-false _ (put .before .before .if2 .left) in
+    let new = added-new _ _ (args .nodes .now) (args .count) (omega arith) _ narrow (put .put-node .ensures .1) in
+    (put .put-node .ensures .0, (omega arith, new))
 
 pub add-spec : {M : Type 1} → statement M
 add-spec = tie.close (tie.spec returns returns-2 put-node-requires (λ c. search needs) (λ c. search needs) returns-3)

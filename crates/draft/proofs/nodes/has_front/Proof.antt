@@ -1,9 +1,9 @@
 -- Proof of `has_front`: the sizes are the same, and the test from the start equals the test from word p on.
-use Prim.Native.Nat.{ℕ, _*_, _≤_, _-_}
+use Prim.Native.Nat.{_≤_, _-_}
 use mathlib.Core.Path.{_≡_, refl, sym, _∙_}
 use native.Mathlib.Omega.{arith}
 use borrow.Author.Needs.{needs}
-use lib.ListN.{length, getD, take, drop, length-map}
+use lib.ListN.{length, take, drop, length-map}
 use Rattle.draft.specs.Nodes.{frontAt, sameWords?}
 use Rattle.draft.proofs.NodeLaws.{other-size, word-same, word-not, words-same}
 use Rattle.draft.proofs.nodes.has_front.Statement.{statement}
@@ -22,8 +22,7 @@ fits c = let e : length (c .args .t3 .list) ≡ 26 = simp length-map at (c .good
 returns : tie.Need-returns Inv-loop μ-loop
 returns c =
     let start = c .before .before in
-    let args = start .args in
-    sym (other-size (args .nodes .now) (args .n) (args .t3 .size) (args .t3 .list) (start .pre .0) (fits start) (c .if1 .taken))
+    sym (other-size _ _ _ _ (start .pre .0) (fits start) (c .if1 .taken))
 
 loop-holds : tie.Need-loop-holds Inv-loop μ-loop
 loop-holds c = (omega arith, refl)
@@ -32,27 +31,24 @@ returns-2 : tie.Need-returns-2 Inv-loop μ-loop
 returns-2 c =
     let turn = c .before .before .before .before in
     let start = turn .before .before .before in
-    let args = start .args in
     sym (turn .loop .inv .1
-    ∙ word-not (args .nodes .now) (args .n) (args .t3 .size) (args .t3 .list) (start .pre .0) (fits start) (turn .before .if1 .left) (turn .loop .p) (omega arith) (c .if2 .taken))
+    ∙ word-not _ _ _ _ (start .pre .0) (fits start) (turn .before .if1 .left) (turn .loop .p) (omega arith) (c .if2 .taken))
 
 loop-again : tie.Need-loop-again Inv-loop μ-loop
 loop-again c =
     let turn = c .before .before .before .before in
-    let start = turn .before .before .before in
-    let args = start .args in (
+    let start = turn .before .before .before in (
       omega arith,
       turn .loop .inv .1
-          ∙ word-same (args .nodes .now) (args .n) (args .t3 .size) (args .t3 .list) (start .pre .0) (fits start) (turn .before .if1 .left) (turn .loop .p) (omega arith) (c .if2 .left),
+          ∙ word-same _ _ _ _ (start .pre .0) (fits start) (turn .before .if1 .left) (turn .loop .p) (omega arith) (c .if2 .left),
     )
 
 returns-3 : tie.Need-returns-3 Inv-loop μ-loop
 returns-3 c =
     let turn = c .before in
     let start = turn .before .before .before in
-    let args = start .args in
     sym (turn .loop .inv .1
-    ∙ words-same (args .nodes .now) (args .n) (args .t3 .size) (args .t3 .list) (start .pre .0) (fits start) (turn .before .if1 .left) (turn .loop .p) (c .loop-test .left))
+    ∙ words-same _ _ _ _ (start .pre .0) (fits start) (turn .before .if1 .left) (turn .loop .p) (c .loop-test .left))
 
 pub has-front-spec : {M : Type 1} → statement M
 has-front-spec =

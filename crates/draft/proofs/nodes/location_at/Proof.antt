@@ -9,7 +9,8 @@ use Rattle.draft.proofs.nodes.location_at.Tie as tie
 returns : tie.Need-returns
 returns c =
     let start = c .before .before .before in
-    (c .location-of .ensures .0 ∙ ap locationOf (sym (first-word (start .args .nodes .now) (start .args .n) (start .pre))), c .location-of .ensures .1)
+    let first = first-word (start .args .nodes .now) (start .args .n) (start .pre) in
+    (c .location-of .ensures .0 ∙ ap locationOf (sym first), c .location-of .ensures .1)
 
 pub location-at-spec : {M : Type 1} → statement M
 location-at-spec =
