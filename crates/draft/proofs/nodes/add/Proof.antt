@@ -17,7 +17,7 @@ returns-2 c =
     let start = c .before .before .before .before in
     let args = start .args in
     let h = start .pre .0 .limit in
-    let wide = not-true _ (c .if2 .taken) in
+    let wide = not-true (args .front .narrow) (c .if2 .taken) in
     (still (args .nodes .now) (args .count) (start .pre .0), (omega arith, added-wide _ _ (args .nodes .now) (args .count) (omega arith) wide))
 
 put-node-requires : tie.Need-put-node-requires
@@ -32,7 +32,7 @@ returns-3 c =
     let start = put .before .before .before .before .before .before in
     let args = start .args in
     let h = start .pre .0 .limit in
-    let narrow = not-false _ (put .before .before .if2 .left) in
+    let narrow = not-false (args .front .narrow) (put .before .before .if2 .left) in
     let new = added-new _ _ (args .nodes .now) (args .count) (omega arith) _ narrow (put .put-node .ensures .1) in
     (put .put-node .ensures .0, (omega arith, new))
 
