@@ -4,3 +4,8 @@ pub mod Coding
 pub mod LimitLaws
 pub mod SmallestLaws
 pub mod LandedLaws
+pub mod PlacingLaws
+pub mod DrawingLaws
+pub mod ExploringLaws
+pub mod ExploredLaws
+pub mod ModelLaws
