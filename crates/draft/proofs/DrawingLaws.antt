@@ -1,10 +1,10 @@
 -- What exploring by front words and codes comes to, step after step, against the definition; and how the codes of edges, rows and nodes
 -- stand behind those before. Assumes nothing.
-use Prim.Native.Nat.{ℕ, suc, _+_}
-use mathlib.Core.Path.{_≡_, refl, ap, _∙_}
+use Prim.Native.Nat.{ℕ, suc, _+_, _≤_}
+use mathlib.Core.Path.{_≡_, refl, sym, ap, _∙_}
 use mathlib.Core.Logic.{inl, inr}
-use mathlib.Core.List.{List, [], _∷_, _++_, map, append-assoc}
-use lib.ListN.{length, drop, length-append}
+use mathlib.Core.List.{List, [], _∷_, _++_, map, append-assoc, append-nil}
+use lib.ListN.{length, drop, length-append, drop-of-length-le}
 use Rattle.zone.specs.Checks.{Answer, refused, accepted}
 use Rattle.model.specs.Model.{Edge, Action, Model}
 use Rattle.model.specs.States.{locationAt}
@@ -12,7 +12,7 @@ use Rattle.table.specs.Table.{rowActions}
 use Rattle.drafting.specs.Exploring.{Found, FoundRow, blocked, toNodes, Progress, done, onFrom}
 use Rattle.drafting.specs.Words.{frontWords}
 use Rattle.drafting.proofs.Shares.{Share, Valued}
-use Rattle.drafting.proofs.ValuedRows.{ShareIs, SharesOf, nextEdge, ShareRows, passBlocked, nextRow, ValuedAll, nextNode}
+use Rattle.drafting.proofs.ValuedRows.{ShareIs, SharesOf, nextEdge, ShareRows, passBlocked, nextRow, ValuedAll, noNode, nextNode}
 use Rattle.draft.specs.Exploration.{Drawing, drawing, goOnBy, goOn, codeOf}
 use Rattle.draft.specs.declared.nodes.Stop.the-variants as stop
 use Rattle.draft.proofs.Coding.{shareCodes, rowsCodes, allCodes, endsFrom}
@@ -76,7 +76,7 @@ module _ (M : Model) (F : Found) (before : List ℕ) where
     pub are : ShareRows M F As rs shares
     pub codes : cs ≡ before ++ rowsCodes rs shares
 
--- of the nodes from number n on, where the codes of each end being `ends`, behind `endsBefore`
+-- of the nodes from number n on; `ends`, behind `endsBefore`, tells where those of each end
 pub record AllDrawn (M : Model) (n : ℕ) (before endsBefore ends : List ℕ) (s : Progress (List (List FoundRow))) (cs : List ℕ) : Type 0 where
   pub valued : List Valued
   pub are : ValuedAll M (drop n (s .found)) (s .result) valued
@@ -111,6 +111,17 @@ module _ {M : Model} {F : Found} {before : List ℕ} where
     are = nextRow (h .are) (hs .are);
     codes = behind before (shareCodes (h .shares)) (rowsCodes rs (hs .shares)) bs cs (h .codes) (hs .codes);
   }
+
+-- no node is left
+pub none-drawn : {M : Model} (n : ℕ) (found : List Found) (cs ends : List ℕ) → length found ≤ n →
+    AllDrawn M n cs ends ends (record { found = found; result = [] }) cs
+unfolding allCodes endsFrom
+none-drawn n found cs ends over = record {
+  valued = [];
+  are = rw (drop-of-length-le found over) noNode;
+  codes = sym (append-nil cs);
+  endsAre = sym (append-nil ends);
+}
 
 -- a node, and those from the next number on
 pub node-cons : {M : Model} (n : ℕ) {F : Found} {rs : List FoundRow} {before bs cs endsBefore ends : List ℕ} (s : Progress (List (List FoundRow))) →

@@ -1,14 +1,14 @@
 -- Exploring by square tables, front words and codes explores as the definition says: node after node, from the start zone. Assumes nothing.
 use Prim.Native.Nat.{ℕ, zero, suc, _+_, _≤_, _<_, zero-le}
-use mathlib.Core.Path.{_≡_, refl, sym, ap, _∙_}
+use mathlib.Core.Path.{_≡_, refl, ap, _∙_}
 use mathlib.Core.Logic.{inl, inr}
 use mathlib.Core.Bool.{Bool, true, false, cond}
-use mathlib.Core.List.{List, [], _∷_, _++_, map, append-nil}
+use mathlib.Core.List.{List, [], _∷_, _++_, map}
 use native.Mathlib.Nat as N
 use native.Mathlib.Omega.{arith}
 use borrow.Author.Tests.{ltb-true, ltb-false}
 use lib.Dec.{ltb}
-use lib.ListN.{getD, length, drop, length-map, drop-of-length-le}
+use lib.ListN.{getD, length, drop, length-map}
 use lib.Seq.{drop-cons}
 use Rattle.zone.specs.Checks.{Answer, refused, accepted}
 use Rattle.zone.specs.declared.zones.Zone.{Zone as Square}
@@ -24,17 +24,17 @@ use Rattle.drafting.specs.Exploring.{Found, FoundRow, Progress, done, andThen, 
 use Rattle.drafting.specs.Words.{frontWords}
 use Rattle.drafting.proofs.Shares.{Valued}
 use Rattle.drafting.proofs.ExploreLaws.{Ready, Grown, grown-ready, grown-trans, grown-length, grown-at, node-found, rows-formed, rows-found, nodes-found}
-use Rattle.drafting.proofs.ValuedRows.{ValuedAll, noNode}
+use Rattle.drafting.proofs.ValuedRows.{ValuedAll}
 use Rattle.draft.specs.Fronts.{zoneFrom}
 use Rattle.draft.specs.Nodes.{Placing}
 use Rattle.draft.specs.Exploration.{Drawing, drawing, withNode, Explored, exploredAs, goOnEnds, startDrawing, exploredFrom}
 use Rattle.draft.specs.Exploration.{nodesFrom as exploredNodes}
 use Rattle.draft.specs.declared.nodes.Stop.the-variants as stop
-use Rattle.draft.proofs.Coding.{allCodes, endsFrom, Coded}
+use Rattle.draft.proofs.Coding.{Coded}
 use Rattle.draft.proofs.SmallestLaws.{zone-bounds}
 use Rattle.draft.proofs.LandedLaws.{start-square}
 use Rattle.draft.proofs.PlacingLaws.{Places, placed, fullNodes, farBounds, placed-first}
-use Rattle.draft.proofs.DrawingLaws.{Draws, drawn, endedNodes, endedBounds, draws-as, draws-result, AllDrawn, node-cons}
+use Rattle.draft.proofs.DrawingLaws.{Draws, drawn, endedNodes, endedBounds, draws-as, draws-result, AllDrawn, none-drawn, node-cons}
 use Rattle.draft.proofs.ExploringLaws.{node-right}
 
 -- what is drawn of the nodes, and where the codes of each end, behind the codes `before` and the ends `endsBefore`
@@ -57,14 +57,9 @@ module _ {M : Model} {m : Kept} (x : Indexed M m) (good : GoodModel M) (formed :
   -- ---- the nodes from number n on, k of them at most
   nodes-right : (k n : ℕ) → 64 ≤ k + n → (found : List Found) → Ready M found → (cs endsBefore : List ℕ) →
       DrawsNodes M (nodesFrom M k n found) n cs endsBefore (exploredNodes m k n endsBefore (drawing stop.None (map frontWords found) cs))
-  unfolding exploredNodes allCodes endsFrom
+  unfolding exploredNodes
   nodes-right zero n all found ready cs endsBefore =
-      drawn (record { found = found; result = [] }) cs refl (record {
-        valued = [];
-        are = rw (drop-of-length-le found (let g = ready .few in let h : length found ≤ n = omega arith in h)) noNode;
-        codes = sym (append-nil cs);
-        endsAre = sym (append-nil endsBefore);
-      })
+      drawn (record { found = found; result = [] }) cs refl (none-drawn n found cs endsBefore (let g = ready .few in omega arith))
   nodes-right (suc k) n all found ready cs endsBefore =
       rw (length-map found frontWords)
       (by (ltb n (length found)) refl (λ s r ds ends. nodes-right k (suc n) (omega arith) s r ds ends))
@@ -89,12 +84,7 @@ module _ {M : Model} {m : Kept} (x : Indexed M m) (good : GoodModel M) (formed :
           (exploredAs (drawing stop.None (map frontWords found) cs) endsBefore))
       by false e rest =
           let over : length found ≤ n = ltb-false n (length found) e in
-          drawn (record { found = found; result = [] }) cs (inl (over, refl)) (record {
-            valued = [];
-            are = rw (drop-of-length-le found over) noNode;
-            codes = sym (append-nil cs);
-            endsAre = sym (append-nil endsBefore);
-          })
+          drawn (record { found = found; result = [] }) cs (inl (over, refl)) (none-drawn n found cs endsBefore over)
       by true e rest =
           let less : n < length found = ltb-true n (length found) e in
           ends-then M (nodesFrom M (suc k) n found) n cs endsBefore more (node-right x good formed found ready n less cs)

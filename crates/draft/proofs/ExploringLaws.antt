@@ -152,8 +152,7 @@ module _ {M : Model} {m : Kept} (x : Indexed M m) (good : GoodModel M) (formed :
   rows-right : (F : Found) → Writable M F → (a : ℕ) (As : List Action) → Each (ActionIs M m) a As → (found : List Found) → Ready M found →
       (cs : List ℕ) →
       Draws (rowsFor M F As found) (λ s. RowsDrawn M F cs As (s .result))
-      (rowsFrom m (waited F) (length As) a
-      (drawing stop.None (map frontWords found) cs))
+      (rowsFrom m (waited F) (length As) a (drawing stop.None (map frontWords found) cs))
   unfolding rowsFrom Each rowsCodes
   rows-right F w a [] h found ready cs =
       drawn (record { found = found; result = [] }) cs refl (record { shares = []; are = noRow; codes = sym (append-nil cs) })
@@ -192,7 +191,6 @@ module _ {M : Model} {m : Kept} (x : Indexed M m) (good : GoodModel M) (formed :
       by : (c : Bool) →
           Draws (rowsFor M F (cond c [] (L .actions)) found) (λ s. RowsDrawn M F cs (cond c [] (L .actions)) (s .result))
           (cond c (drawing stop.None (map frontWords found) cs)
-          (rowsFrom m (waited F) (length (L .actions))
-          (getD (m .index .actions) (F .location) 0) (drawing stop.None (map frontWords found) cs)))
+          (rowsFrom m (waited F) (length (L .actions)) (getD (m .index .actions) (F .location) 0) (drawing stop.None (map frontWords found) cs)))
       by true = rows-right F w 0 [] tt found ready cs
       by false = rows-right F w _ (L .actions) (actions-at M m x good formed (F .location) (w .location)) found ready cs
