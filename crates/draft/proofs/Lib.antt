@@ -1,2 +1,5 @@
 -- The laws of `draft`; proofs of functions stand in folders of their own.
 pub mod Coding
+pub mod ExploreCode
+pub mod ExploreNodes
+pub mod LocatedLaws

@@ -10,9 +10,10 @@ ghost use Rattle.table.specs.Fields.{locationOf};
 ghost use Rattle.table.specs.Scan.{edgesAt};
 ghost use Rattle.draft.specs.Fronts.{Clocks};
 ghost use Rattle.draft.specs.Nodes.{frontAt, frontsOf, Holds};
-ghost use Rattle.draft.specs.Exploration.{drawingOf, exploredAs, codeOf, landedSquare, withSuccessor, successorsFrom, withRow, rowsFrom, withNode};
+ghost use Rattle.draft.specs.Exploration.{drawingOf, ExploredIn, codeOf, landedSquare, withSuccessor, successorsFrom, withRow, rowsFrom, withNode};
 ghost use Rattle.draft.specs.Exploration.{nodesFrom, startDrawing};
-ghost use Rattle.draft.specs.Asked.{ActionAsked, ModelAsked, Located, Roomy, Grown};
+ghost use Rattle.draft.specs.Asked.{ActionAsked, ModelAsked, Located, Roomy, Grown, EndsFit};
+ghost use Rattle.draft.specs.Writing.{FinishesAfter};
 use crate::fronts;
 use crate::nodes;
 use crate::nodes::Stop;
@@ -211,9 +212,10 @@ pub(crate) fn explore(
     ends: &mut [usize],
     start: Extent,
 ) -> Extent
-    requires { ⌜ ModelAsked (keep index (now edges) (now zones)) × Located (index .locations) (frontsOf (now nodes) (start .nodes)) × Holds (now nodes) (start .nodes) × (start .codes ≡ 0) × (8192 ≤ length (now codes)) × (64 ≤ length (now ends)) ⌝ }
-    ensures finds { λ r. ⌜ exploredAs (drawingOf r (now (nodes .exit)) (now (codes .exit))) (take (r .nodes) (now (ends .exit))) ≡ nodesFrom (keep index (now (edges .entry)) (now (zones .entry))) 64 0 [] (drawingOf start (now (nodes .entry)) (now (codes .entry))) ⌝ }
-    ensures holds { λ r. ⌜ Holds (now (nodes .exit)) (r .nodes) × (r .codes ≤ 8192) ⌝ }
+    requires { ⌜ ModelAsked (keep index (now edges) (now zones)) × Located (index .locations) (frontsOf (now nodes) (start .nodes)) × Holds (now nodes) (start .nodes) × (start .codes ≡ 0) × EndsFit (now codes) (now ends) ⌝ }
+    ensures finds { λ r. ⌜ ExploredIn (now (nodes .exit)) (now (codes .exit)) (now (ends .exit)) r (nodesFrom (keep index (now (edges .entry)) (now (zones .entry))) 64 0 [] (drawingOf start (now (nodes .entry)) (now (codes .entry)))) ⌝ }
+    ensures holds { λ r. ⌜ Holds (now (nodes .exit)) (r .nodes) × Located (index .locations) (frontsOf (now (nodes .exit)) (r .nodes)) × (r .codes ≤ 8192) ⌝ }
+    ensures finishes { λ r. ⌜ FinishesAfter (now (nodes .exit)) (now (codes .exit)) (now (ends .exit)) r ⌝ }
 {
     let mut found = start;
     for n in 0..64 {
