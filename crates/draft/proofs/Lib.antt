@@ -2,6 +2,7 @@
 pub mod Coding
 pub mod KeyWordLaws
 pub mod FrontLaws
+pub mod NodeLaws
 pub mod LocatedLaws
 pub mod ExploreCode
 pub mod ExploreNodes
