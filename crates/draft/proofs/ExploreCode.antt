@@ -14,7 +14,6 @@ use Rattle.zone.specs.Squares.{listOf, resetSquare, empty?, inside?}
 use Rattle.zone.specs.Stores.{zoneAt}
 use Rattle.zone.specs.declared.zones.Zone.{Zone as Square}
 use Rattle.zone.proofs.Bools.{by-test}
-use Rattle.zone.proofs.Loops.{listOf-length}
 use Rattle.model.specs.Fields.{landsAt, maskOf}
 use Rattle.model.specs.Scan.{guardsAt}
 use Rattle.model.specs.Index.{Kept}
@@ -24,7 +23,7 @@ use Rattle.judge.specs.Reaching.{common}
 use Rattle.drafting.specs.Exploring.{narrow?}
 use Rattle.drafting.specs.Words.{frontWords}
 use Rattle.draft.specs.Fronts.{zoneFrom, FrontOf}
-use Rattle.draft.specs.Nodes.{frontAt, frontsOf, StillHolds, Placing, placingOf, addedTo, knownOr, knownFrom, placedIn}
+use Rattle.draft.specs.Nodes.{frontsOf, StillHolds, Placing, placingOf, addedTo, knownOr, knownFrom, placedIn}
 use Rattle.draft.specs.Exploration.{Drawing, drawingOf, goOnBy, goOn, codeOf, landedSquare, withPlaced, startDrawing}
 use Rattle.draft.specs.Exploration.{withSuccessor, successorsFrom, withRow, rowsFrom}
 use Rattle.draft.specs.Asked.{Roomy, Grown}
@@ -35,6 +34,7 @@ use Rattle.draft.specs.declared.nodes.Stop.{Stop}
 use Rattle.draft.specs.declared.nodes.Stop.the-variants as stop
 use Rattle.draft.specs.declared.nodes.Placed.{Placed}
 use Rattle.draft.specs.declared.explore.Extent.{Extent}
+use Rattle.draft.proofs.NodeLaws.{fronts-length}
 
 -- the variants of a stop other than `None`, which is the first, as a `match` in the code numbers them
 abbrev pub stops : List ℕ
@@ -45,6 +45,17 @@ unfolding goOnBy
 ended stop.None d e n = absurd (n refl)
 ended stop.Nodes d e n = refl
 ended stop.Bounds d e n = refl
+
+-- nothing more is found
+pub grown-none : {nodes codes : List ℕ} {x : Extent} {more : ℕ} → Roomy nodes codes x more → Grown nodes codes nodes codes x x more
+grown-none room = record {
+  holds = room .holds;
+  nodeRoom = refl;
+  codeRoom = refl;
+  moreNodes = omega arith;
+  moreCodes = omega arith;
+  few = omega arith;
+}
 
 -- ---- the node that is placed
 
@@ -82,8 +93,8 @@ pub count-more : (nodes nodes′ : List ℕ) (count : ℕ) (p : Placed) (narrow 
     placingOf p nodes′ ≡ placedIn narrow ws (frontsOf nodes count) → count ≤ p .count
 count-more nodes nodes′ count p narrow ws e =
     let g : length (frontsOf nodes count) ≤ length (frontsOf nodes′ (p .count)) = rw (ap (λ (q : Placing). length (q .fronts)) e) (placed-more ws (frontsOf nodes count) narrow) in
-    let a = listOf-length (frontAt nodes) count 0 in
-    let b = listOf-length (frontAt nodes′) (p .count) 0 in
+    let a = fronts-length nodes count in
+    let b = fronts-length nodes′ (p .count) in
     omega arith
 
 -- ---- the start node
@@ -196,14 +207,7 @@ pub turns-begin : (F : ℕ → ℕ → Drawing → Drawing) (each total first la
 turns-begin F each total first last room h e = record {
   from = omega arith;
   room = room .room;
-  grown = record {
-    holds = room .holds;
-    nodeRoom = refl;
-    codeRoom = refl;
-    moreNodes = omega arith;
-    moreCodes = omega arith;
-    few = omega arith;
-  };
+  grown = grown-none room;
   few = omega arith;
   onward = e;
 }

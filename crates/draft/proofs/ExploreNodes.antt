@@ -18,7 +18,6 @@ use Rattle.zone.specs.declared.zones.Zone.{Zone as Square}
 use Rattle.zone.specs.declared.questions.ZoneRead.{ZoneRead}
 use Rattle.zone.proofs.Bools.{by-test}
 use Rattle.zone.proofs.Integers.{lt-or-ge}
-use Rattle.zone.proofs.Loops.{listOf-length, listOf-at}
 use Rattle.zone.proofs.Sizes.{tightens-universe, tightens-withWord}
 use Rattle.model.specs.Index.{Kept}
 use Rattle.model.proofs.ZoneLaws.{same-at}
@@ -32,8 +31,9 @@ use Rattle.draft.specs.Writing.{FinishesAfter}
 use Rattle.draft.specs.declared.nodes.Stop.{Stop}
 use Rattle.draft.specs.declared.nodes.Stop.the-variants as stop
 use Rattle.draft.specs.declared.explore.Extent.{Extent}
+use Rattle.draft.proofs.NodeLaws.{fronts-length, fronts-at}
 use Rattle.draft.proofs.LocatedLaws.{located-node, located-start}
-use Rattle.draft.proofs.ExploreCode.{one-left}
+use Rattle.draft.proofs.ExploreCode.{grown-none, one-left}
 
 -- ---- a node
 
@@ -51,12 +51,12 @@ read-tightens C ws = words-tighten C ws 0 universe tightens-universe
 
 module _ (nodes : List ℕ) (x : Extent) (n : ℕ) (h : n < x .nodes) where
   front-there : getD (frontsOf nodes (x .nodes)) n [] ≡ frontAt nodes n
-  front-there = listOf-at [] (frontAt nodes) (x .nodes) n h
+  front-there = fronts-at nodes (x .nodes) n h
 
   module _ {l : ℕ} (e : l ≡ locationOf (getD (frontAt nodes n) 0 0)) where
     pub node-located : {L : ℕ} → Located L (frontsOf nodes (x .nodes)) → l < L
     node-located i =
-        let s = listOf-length (frontAt nodes) (x .nodes) 0 in
+        let s = fronts-length nodes (x .nodes) in
         let k = i .at n (omega arith) in
         rw e (rw front-there at k)
 
@@ -64,17 +64,7 @@ module _ (nodes : List ℕ) (x : Extent) (n : ℕ) (h : n < x .nodes) where
       pub node-target : getD (m .index .targets) l false ≡ true → Roomy nodes codes x 128 →
           Grown nodes codes nodes codes x x 128 × (drawingOf x nodes codes ≡ withNode m n (drawingOf x nodes codes))
       unfolding withNode
-      node-target t room = (
-        record {
-          holds = room .holds;
-          nodeRoom = refl;
-          codeRoom = refl;
-          moreNodes = omega arith;
-          moreCodes = omega arith;
-          few = omega arith;
-        },
-        sym (rw (front-there, ← e, t)),
-      )
+      node-target t room = (grown-none room, sym (rw (front-there, ← e, t)))
 
       pub node-rows : {y i waited : Square} → getD (m .index .targets) l false ≡ false → y ≡ readZone (m .index .clocks) (drop 1 (frontAt nodes n)) .zone →
           i ≡ zoneAt (m .zones) l → waited ≡ waitedSquare y i →
@@ -163,7 +153,7 @@ module _ (m : Kept) where
       unfolding nodesFrom
       no-more zero = refl
       no-more (suc k) =
-          let s = listOf-length (frontAt nodes) (x .nodes) 0 in
+          let s = fronts-length nodes (x .nodes) in
           rw (le-ltb n (length (frontsOf nodes (x .nodes))) (omega arith))
 
       pub nodes-end : ExploredIn nodes codes ends x goal ×
@@ -185,7 +175,7 @@ module _ (m : Kept) where
         (e : drawingOf y nodes′ codes′ ≡ withNode m n (drawingOf x nodes codes)) where
       located-still : Located (m .index .locations) (frontsOf nodes′ (y .nodes))
       located-still =
-          let s = listOf-length (frontAt nodes) (x .nodes) 0 in
+          let s = fronts-length nodes (x .nodes) in
           rw (ap (λ (d : Drawing). d .fronts) e) (located-node m asked n (drawingOf x nodes codes) (omega arith) (i .located))
 
       codes-few : y .codes ≤ suc n * 128
@@ -203,7 +193,7 @@ module _ (m : Kept) where
           (nodesFrom m (64 - suc n) (suc n) (take n ends ++ (y .codes ∷ [])) (drawingOf y nodes′ codes′))
       unfolding nodesFrom
       one-node =
-          let s = listOf-length (frontAt nodes) (x .nodes) 0 in
+          let s = fronts-length nodes (x .nodes) in
           i .onward ∙ rw (one-left 64 n h, lt-ltb n (length (frontsOf nodes (x .nodes))) (omega arith), ← e, codes-there)
 
       pub node-stops : (y .stop ≡ stop.None → ⊥) → ExploredIn nodes′ codes′ ends y goal ×

@@ -4,12 +4,13 @@ use mathlib.Core.Path.{_≡_, refl}
 use mathlib.Core.Logic.{_⊎_, inl, inr}
 use mathlib.Core.Bool.{Bool, false}
 use mathlib.Core.List.{List, [], _∷_, _++_}
-use native.Mathlib.Nat.{eq-or-lt-of-le, le-of-suc-le-suc, not-suc-le-zero}
+use native.Mathlib.Nat.{eq-or-lt-of-le, not-suc-le-zero}
 use native.Mathlib.Numerals.{add-one}
 use native.Mathlib.Omega.{arith}
 use borrow.Author.Tests.{ltb-true}
 use lib.Dec.{ltb}
-use lib.ListN.{length, getD, length-append}
+use lib.ListN.{length, getD, length-append, List·getD-append}
+use lib.Seq.{getD-append-seam}
 use Rattle.zone.specs.Scale.{Zone}
 use Rattle.zone.specs.Squares.{resetSquare, empty?}
 use Rattle.zone.specs.Stores.{zoneAt}
@@ -34,17 +35,6 @@ use Rattle.draft.specs.declared.nodes.Known.the-variants as known
 use Rattle.draft.specs.declared.nodes.Stop.{Stop}
 use Rattle.draft.specs.declared.nodes.Stop.the-variants as stop
 
--- ---- a list with one element more
-
-last-here : {A : Type 0} (xs : List A) (x d : A) → getD (xs ++ (x ∷ [])) (length xs) d ≡ x
-last-here [] x d = refl
-last-here (y ∷ xs) x d = last-here xs x d
-
-before-last : {A : Type 0} (xs : List A) (x d : A) (n : ℕ) → n < length xs → getD (xs ++ (x ∷ [])) n d ≡ getD xs n d
-before-last [] x d n h = absurd (not-suc-le-zero h)
-before-last (y ∷ xs) x d zero h = refl
-before-last (y ∷ xs) x d (suc n) h = before-last xs x d n (le-of-suc-le-suc h)
-
 -- ---- the words of a node
 
 pub front-location : (l : ℕ) (Z : Zone) → l < 16 → locationOf (getD (frontWords (record { location = l; zone = Z })) 0 0) ≡ l
@@ -61,8 +51,8 @@ module _ (L : ℕ) where
     located-more = record { at = λ n h. by n (eq-or-lt-of-le (let s = length-append fs (ws ∷ []) in omega arith)) }
       where
         by : (n : ℕ) → (n ≡ length fs) ⊎ (n < length fs) → locationOf (getD (getD (fs ++ (ws ∷ [])) n []) 0 0) < L
-        by n (inl e) = rw (e, last-here fs ws []) at
-        by n (inr l) = rw (before-last fs ws [] n l) (i .at n l)
+        by n (inl e) = rw (e, getD-append-seam fs ws [] []) at
+        by n (inr l) = rw (List·getD-append fs (ws ∷ []) [] n l) (i .at n l)
 
     located-added : (narrow : Bool) → Located L (addedTo narrow ws fs .fronts)
     unfolding addedTo
