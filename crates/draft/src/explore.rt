@@ -1,15 +1,14 @@
 // Exploring forward: nodes in order of discovery, then by action and edge. What is found stands in stores that the caller lends.
 ghost use mathlib.Core.Path.{_≡_};
-ghost use Prim.Native.Nat.{_+_, _-_, _*_, _≤_, _<_};
+ghost use Prim.Native.Nat.{_+_, _-_, _≤_, _<_};
 ghost use mathlib.Core.List.{[]};
-ghost use lib.ListN.{getD, length, take};
+ghost use lib.ListN.{getD};
 ghost use Rattle.zone.specs.Squares.{Tightens, inside?};
 ghost use Rattle.model.specs.Fields.{landsAt};
 ghost use Rattle.model.specs.Index.{keep};
-ghost use Rattle.table.specs.Fields.{locationOf};
 ghost use Rattle.table.specs.Scan.{edgesAt};
 ghost use Rattle.draft.specs.Fronts.{Clocks};
-ghost use Rattle.draft.specs.Nodes.{frontAt, frontsOf, Holds};
+ghost use Rattle.draft.specs.Nodes.{frontsOf, Holds};
 ghost use Rattle.draft.specs.Exploration.{drawingOf, ExploredIn, codeOf, landedSquare, withSuccessor, successorsFrom, withRow, rowsFrom, withNode};
 ghost use Rattle.draft.specs.Exploration.{nodesFrom, startDrawing};
 ghost use Rattle.draft.specs.Asked.{ActionAsked, ModelAsked, Located, Roomy, Grown, EndsFit};
