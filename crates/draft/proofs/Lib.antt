@@ -1,6 +1,6 @@
 -- The laws of `draft`, none of which uses a later one: the words of a node's location and bounds, nodes in a store, square tables against the zones of
--- card 5, exploring, the words of a draft and its values, what the functions ask of a model, the call; proofs of functions stand in folders of their
--- own.
+-- card 5, exploring and its code, the words of a draft and its values, what the functions ask of a model, the call; proofs of functions stand in
+-- folders of their own.
 pub mod KeyWordLaws
 pub mod FrontLaws
 pub mod NodeLaws
@@ -12,6 +12,9 @@ pub mod Coding
 pub mod DrawingLaws
 pub mod ExploringLaws
 pub mod ExploredLaws
+pub mod LocatedLaws
+pub mod ExploreCode
+pub mod ExploreNodes
 pub mod CodeLaws
 pub mod TextLaws
 pub mod ValueLaws
