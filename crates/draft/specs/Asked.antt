@@ -51,11 +51,13 @@ pub record Roomy (nodes codes : List ℕ) (x : Extent) (more : ℕ) : Type 0 whe
   pub holds : Holds nodes (x .nodes)
   pub room : x .codes + more ≤ length codes
 
--- stores after a call are as long as before, hold what is found then, and have at most so many codes more
+-- stores after a call are as long as before, hold what is found then, no fewer nodes and codes than before, and at most so many codes more
 pub record Grown (nodes codes nodes′ codes′ : List ℕ) (x y : Extent) (more : ℕ) : Type 0 where
   pub holds : Holds nodes′ (y .nodes)
   pub nodeRoom : length nodes′ ≡ length nodes
   pub codeRoom : length codes′ ≡ length codes
+  pub moreNodes : x .nodes ≤ y .nodes
+  pub moreCodes : x .codes ≤ y .codes
   pub few : y .codes ≤ x .codes + more
 
 -- of values, 128 of them: none is above V
