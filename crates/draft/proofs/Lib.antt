@@ -1,2 +1,3 @@
 -- The laws of `draft`; proofs of functions stand in folders of their own.
 pub mod Coding
+pub mod RoundCode
