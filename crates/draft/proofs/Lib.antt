@@ -2,3 +2,4 @@
 pub mod Coding
 pub mod NodeLaws
 pub mod RoundCode
+pub mod WritingLaws

@@ -12,7 +12,6 @@ use lib.Seq.{getD-set-other, set-getD}
 use Rattle.model.specs.Fields.{weightOf}
 use Rattle.model.specs.Index.{Kept}
 use Rattle.model.specs.declared.index.Index.{Index}
-use Rattle.zone.proofs.Loops.{listOf-length, listOf-at}
 use Rattle.table.specs.Fields.{locationOf}
 use Rattle.table.specs.Scan.{edgesAt}
 use Rattle.drafting.specs.Words.{whole}
@@ -21,6 +20,7 @@ use Rattle.drafting.proofs.RoundLaws.{all-limited}
 use Rattle.draft.specs.Nodes.{frontAt, frontsOf}
 use Rattle.draft.specs.Asked.{weightsFrom, ActionAsked, ModelAsked, Located, ValuesFit, EndsFit}
 use Rattle.draft.specs.Values.{sumFrom, largestFrom, valueAt, beginOf, roundBelow, roundsOf, valuesOf}
+use Rattle.draft.proofs.NodeLaws.{fronts-length, fronts-at}
 
 -- where the codes of a node begin, behind the first
 pub begin-later : (ends : List ℕ) (n : ℕ) → (n ≡ 0 → ⊥) → getD ends (n - 1) 0 ≡ beginOf ends n
@@ -152,10 +152,11 @@ set-fits : {vs : List ℕ} (i v : ℕ) → ValuesFit vs → v ≤ whole → Valu
 set-fits {vs} i v fit low = record { size = length-set vs i v ∙ fit .size; small = λ n. set-limited vs i v n (fit .small) low }
 
 -- the location of each node is there
-pub located-at : {L : ℕ} (nodes : List ℕ) (count n : ℕ) → Located L (frontsOf nodes count) → n < count → locationOf (getD (frontAt nodes n) 0 0) < L
+pub located-at : {L : ℕ} (nodes : List ℕ) (count n : ℕ) → Located L (frontsOf nodes count) → n < count →
+    locationOf (getD (frontAt nodes n) 0 0) < L
 located-at nodes count n l h =
-    let there : n < length (frontsOf nodes count) = rw (listOf-length (frontAt nodes) count 0) h in
-    rw (listOf-at [] (frontAt nodes) count n h) at (l .at n there)
+    let there : n < length (frontsOf nodes count) = rw (fronts-length nodes count) h in
+    rw (fronts-at nodes count n h) at (l .at n there)
 
 module _ (x : Index) (es nodes codes ends : List ℕ) where
   -- a round leaves the values behind the nodes replaced
