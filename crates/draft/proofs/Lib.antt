@@ -22,3 +22,4 @@ pub mod RoundCode
 pub mod WritingLaws
 pub mod ModelLaws
 pub mod CallLaws
+pub mod DraftCall
