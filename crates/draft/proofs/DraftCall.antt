@@ -15,6 +15,7 @@ use Rattle.model.specs.declared.read.ModelAnswer.{ModelAnswer}
 use Rattle.model.specs.declared.read.ModelAnswer.the-variants as model
 use Rattle.model.specs.declared.read.ModelRead.{ModelRead}
 use Rattle.judge.specs.Deciding.{HandsOn}
+use Rattle.judge.proofs.Handing.{model-refuses}
 use Rattle.judge.proofs.Answering.{ModelAccepted, accepts, keeps, good, formed}
 use Rattle.drafting.specs.Words.{frontWords, wordsOf}
 use Rattle.drafting.specs.Drafting.{Drafts, lengthOf, lentAfter, Drafted, CertifiesWritten}
@@ -54,14 +55,11 @@ module _ (words : List ℕ) (n : ℕ) (lent : List ℕ) where
   -- the model's refusal, handed on
   pub refused-model : (a : ModelAnswer) (v : DraftAnswer) → ReadModel words (modelAnswer a) → HandsOn (modelAnswer a) (draftAnswer v) →
       ((c : Counts) → a ≡ model.Accepted c → ⊥) → Promise words n lent v lent
-  unfolding modelAnswer lengthOf lentAfter
-  refused-model (model.Accepted c) v reads h no = absurd (no c refl)
-  refused-model (model.BadModelKind p) v reads h no = promised v lent (refused 1 p) (model-refused words n (length lent) 1 p reads) (h .same 1 p refl) refl
-  refused-model (model.BadModelField p) v reads h no = promised v lent (refused 2 p) (model-refused words n (length lent) 2 p reads) (h .same 2 p refl) refl
-  refused-model (model.OverModelLimit p) v reads h no = promised v lent (refused 3 p) (model-refused words n (length lent) 3 p reads) (h .same 3 p refl) refl
-  refused-model (model.BadWeights p) v reads h no = promised v lent (refused 4 p) (model-refused words n (length lent) 4 p reads) (h .same 4 p refl) refl
-  refused-model (model.NoLocation p) v reads h no = promised v lent (refused 5 p) (model-refused words n (length lent) 5 p reads) (h .same 5 p refl) refl
-  refused-model (model.NoStart p) v reads h no = promised v lent (refused 6 p) (model-refused words n (length lent) 6 p reads) (h .same 6 p refl) refl
+  unfolding lengthOf lentAfter
+  refused-model a v reads h un =
+      let f = model-refuses a un in
+      promised v lent (refused (f .number) (f .place))
+      (model-refused words n (length lent) (f .number) (f .place) (subst (ReadModel words) (f .says) reads)) (h .same (f .number) (f .place) (f .says)) refl
 
   -- a model that was read and accepted, its edge words and zones in the stores es and zs
   module _ (r : ModelRead) (es : List ℕ) (zs : List ℤ) (a : ModelAccepted words r es zs) where
@@ -137,7 +135,7 @@ module _ (words : List ℕ) (n : ℕ) (lent : List ℕ) where
 
           stored : Stored (all .found) (all .rows) (all .valued) nodes codes ends (y .nodes) (y .codes)
           stored = record {
-            size = sym (fronts-length nodes (y .nodes)) ∙ ap length fronts-are ∙ length-map frontWords (all .found);
+            size = sym (fronts-length nodes (y .nodes)) ∙ ap length fronts-are ∙ length-map (all .found) frontWords;
             fronts = fronts-are;
             coded = record {
               codesAre = ap (λ (d : Drawing). d .codes) drawn ∙ all .coded .codesAre;
