@@ -10,10 +10,10 @@ use Rattle.draft.proofs.rounds.round.Statement.{statement}
 use Rattle.draft.proofs.rounds.round.Tie as tie
 
 abbrev Inv-loop : tie.InvT-loop
-Inv-loop edges zones nodes codes ends count index old next₀ n₀ next n = RoundTo index edges nodes codes ends count old (next .list) n
+Inv-loop edges zones nodes codes ends count index old list₀ n₀ list n = RoundTo index edges nodes codes ends count old list n
 
 abbrev μ-loop : tie.MeasureT-loop
-μ-loop edges zones nodes codes ends count index old next₀ n₀ next n = count - n
+μ-loop edges zones nodes codes ends count index old list₀ n₀ list n = count - n
 
 abbrev Start : Type 0
 Start = tie.Start Inv-loop μ-loop
@@ -22,7 +22,7 @@ abbrev Turn : Type 0
 Turn = tie.In-loop Inv-loop μ-loop
 
 abbrev start : Turn → Start
-start c = c .before .before .before .before .before .before .before
+start c = c .before .before .before .before .before .before .before .before
 
 location-at-requires : tie.Need-location-at-requires Inv-loop μ-loop
 location-at-requires c κs = start c .pre .1 .nodes _ (c .loop-test .taken)
@@ -57,8 +57,8 @@ largest-requires c κs =
       pre .4,
     )
 
-element-write-next : tie.Need-element-write-next Inv-loop μ-loop
-element-write-next c =
+array-write-list : tie.Need-array-write-list Inv-loop μ-loop
+array-write-list c =
     let t = c .before .before .before .before .before .before in
     let few = start t .pre .1 .limit in
     let taken = t .loop-test .taken in
@@ -82,6 +82,6 @@ returns c = round-end _ _ _ _ _ (c .before .loop .inv) (c .loop-test .left)
 pub round-spec : {M : Type 1} → statement M
 round-spec =
     tie.close
-    (tie.spec Inv-loop μ-loop (λ c. round-begin _ _ _ _ _ _ _ (c .before .before .before .before .before .pre .4)) location-at-requires cast-l
-    element-copy-out-if1 begin-of-requires slice-aggregate-largest largest-requires (λ c. search needs) element-write-next (λ c. search needs)
+    (tie.spec Inv-loop μ-loop (λ c. round-begin _ _ _ _ _ _ _ (c .before .before .before .before .before .before .pre .4)) location-at-requires cast-l
+    element-copy-out-if1 begin-of-requires slice-aggregate-largest largest-requires (λ c. search needs) array-write-list (λ c. search needs)
     (λ c. search needs) loop-again returns)
