@@ -20,6 +20,7 @@ use Rattle.drafting.proofs.RoundLaws.{all-limited}
 use Rattle.draft.specs.Nodes.{frontAt, frontsOf}
 use Rattle.draft.specs.Asked.{weightsFrom, ActionAsked, ModelAsked, Located, ValuesFit, EndsFit}
 use Rattle.draft.specs.Values.{sumFrom, largestFrom, valueAt, beginOf, roundBelow, roundsOf, valuesOf}
+use Rattle.draft.proofs.ValueLaws.{below-past}
 use Rattle.draft.proofs.NodeLaws.{fronts-length, fronts-at}
 
 -- where the codes of a node begin, behind the first
@@ -159,12 +160,6 @@ located-at nodes count n l h =
     rw (fronts-at nodes count n h) at (l .at n there)
 
 module _ (x : Index) (es nodes codes ends : List ℕ) where
-  -- a round leaves the values behind the nodes replaced
-  later-stays : (n m : ℕ) (vs : List ℕ) → n ≤ m → getD (roundBelow x es nodes codes ends n vs) m 0 ≡ getD vs m 0
-  unfolding roundBelow
-  later-stays zero m vs h = refl
-  later-stays (suc n) m vs h = getD-set-other (roundBelow x es nodes codes ends n vs) n m _ 0 (omega arith) ∙ later-stays n m vs (omega arith)
-
   -- the values of the first n nodes are replaced
   pub record RoundTo (count : ℕ) (vs next : List ℕ) (n : ℕ) : Type 0 where
     pub few : n ≤ count
@@ -180,7 +175,7 @@ module _ (x : Index) (es nodes codes ends : List ℕ) where
   unfolding roundBelow valueAt
   round-target {count} {vs} {next} {n} k h l here q =
       let keeps : next ≡ set (roundBelow x es nodes codes ends n vs) n (getD vs n 0) =
-      k .is ∙ sym (set-getD (roundBelow x es nodes codes ends n vs) n 0) ∙ rw (later-stays n n vs (N.le-refl n)) in
+      k .is ∙ sym (set-getD (roundBelow x es nodes codes ends n vs) n 0) ∙ rw (below-past x es nodes codes ends n vs n (N.le-refl n)) in
       record { few = omega arith; fits = k .fits; is = rw (add-one n, ← here, q) keeps }
 
   pub round-next : {count : ℕ} {vs next : List ℕ} {n : ℕ} → RoundTo count vs next n → n < count → (l : ℕ) →
