@@ -18,7 +18,6 @@ use Rattle.zone.specs.declared.zones.Zone.{Zone as Square}
 use Rattle.zone.specs.declared.questions.ZoneRead.{ZoneRead}
 use Rattle.zone.proofs.Bools.{by-test}
 use Rattle.zone.proofs.Integers.{lt-or-ge}
-use Rattle.zone.proofs.Sizes.{tightens-universe, tightens-withWord}
 use Rattle.model.specs.Index.{Kept}
 use Rattle.model.proofs.ZoneLaws.{same-at}
 use Rattle.table.specs.Fields.{locationOf}
@@ -36,18 +35,6 @@ use Rattle.draft.proofs.LocatedLaws.{located-node, located-start}
 use Rattle.draft.proofs.ExploreCode.{grown-none, one-left}
 
 -- ---- a node
-
--- a zone that is read can be tightened three times, whatever its words
-words-tighten : (C : ℕ) (ws : List ℕ) (p : ℕ) (z : Square) → Tightens 3 z → Tightens 3 (readFrom C ws p z .zone)
-unfolding readFrom
-words-tighten C [] p z s = s
-words-tighten C (w ∷ ws) p z s =
-    by-test (λ (r : ZoneRead). Tightens 3 (r .zone)) (goodBound? C w) _ _
-    (λ g. words-tighten C ws (suc p) (withWord w z) (tightens-withWord C w g z s)) (λ _. s)
-
-pub read-tightens : (C : ℕ) (ws : List ℕ) → Tightens 3 (readZone C ws .zone)
-unfolding readZone
-read-tightens C ws = words-tighten C ws 0 universe tightens-universe
 
 module _ (nodes : List ℕ) (x : Extent) (n : ℕ) (h : n < x .nodes) where
   front-there : getD (frontsOf nodes (x .nodes)) n [] ≡ frontAt nodes n

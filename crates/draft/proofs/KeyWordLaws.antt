@@ -11,18 +11,12 @@ use mir.Val.{Fits, SFits, toZ, ofZ}
 use mir.Facts.{toZ-ofZ}
 use Rattle.zone.specs.Keys.{half, lowest}
 use Rattle.zone.specs.declared.bounds.Bound.{Bound as Cell}
-use Rattle.zone.proofs.Bools.{both, and}
+use Rattle.zone.proofs.Bools.{both, and, same-test}
 use Rattle.zone.proofs.Integers.{up, dn, abs-parts, abs-small, ltZ→, →ltZ, parts-add}
 use Rattle.zone.proofs.Limits.{halved}
 use Rattle.zone.proofs.Machine.{back32}
 use Rattle.drafting.specs.Words.{boundWord}
 use Rattle.draft.specs.Fronts.{boundAt, narrowBound?}
-
-same-test : (s t : Bool) → (T s → T t) → (T t → T s) → s ≡ t
-same-test true true f g = refl
-same-test true false f g = absurd (f tt)
-same-test false true f g = absurd (g tt)
-same-test false false f g = refl
 
 -- ---- d is at most 4,095 either way exactly where the key lies from -8,190 to 8,191
 pub record Narrow (z : ℤ) : Type 0 where

@@ -24,7 +24,7 @@ use Rattle.table.specs.Fields.{locationOf}
 use Rattle.table.specs.Scan.{edgesAt}
 use Rattle.judge.specs.Reaching.{common}
 use Rattle.drafting.specs.Words.{frontWords}
-use Rattle.drafting.proofs.WordBack.{node-fields}
+use Rattle.draft.proofs.PlacingLaws.{front-location}
 use Rattle.draft.specs.Fronts.{zoneFrom}
 use Rattle.draft.specs.Nodes.{Placing, addedTo, knownOr, knownFrom, placedIn}
 use Rattle.draft.specs.Exploration.{Drawing, Explored, goOnBy, goOnEnds, withPlaced, landedSquare, startDrawing}
@@ -36,10 +36,6 @@ use Rattle.draft.specs.declared.nodes.Stop.{Stop}
 use Rattle.draft.specs.declared.nodes.Stop.the-variants as stop
 
 -- ---- the words of a node
-
-pub front-location : (l : ℕ) (Z : Zone) → l < 16 → locationOf (getD (frontWords (record { location = l; zone = Z })) 0 0) ≡ l
-unfolding frontWords
-front-location l Z h = node-fields l h .0
 
 module _ (L : ℕ) where
   pub located-none : Located L []
@@ -86,7 +82,7 @@ module _ (L : ℕ) where
 pub located-start : (x : Index) (y : Square) → x .start < x .locations → x .locations ≤ 16 → Located (x .locations) (startDrawing x y .fronts)
 unfolding startDrawing
 located-start x y h few =
-    let f = front-location (x .start) (zoneFrom (x .clocks) y) (omega arith) in
+    let f = front-location (record { location = x .start; zone = zoneFrom (x .clocks) y }) (omega arith) in
     located-placed (x .locations) _ (rw f h) [] (located-none (x .locations)) _
 
 -- ---- exploring
@@ -100,7 +96,7 @@ module _ (m : Kept) (asked : ModelAsked m) where
       let y = resetSquare (maskOf w) reach in
       let Z = zoneFrom (m .index .clocks) (landedSquare y (zoneAt (m .zones) (landsAt w))) in
       let few = asked .locations in
-      let f = front-location (landsAt w) Z (omega arith) in
+      let f = front-location (record { location = landsAt w; zone = Z }) (omega arith) in
       let p = located-placed L (frontWords (record { location = landsAt w; zone = Z })) (rw f h) (d .fronts) i _ in
       located-going L _ _ _ p p
 

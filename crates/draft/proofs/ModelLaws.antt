@@ -52,6 +52,7 @@ module _ {M : Model} {m : Kept} (x : Indexed M m) (good : GoodModel M) (formed :
   action-asked a A i = record {
     guard = rw (i .at .guard) (tightens-fewer 2 3 _ (omega arith) (tightens-bounds (A .guard) (i .good .guard)));
     few = rw (edges-at (i .at)) (i .formed .few);
+    rises = rw (i .at .ends) (N.le-add-right _ (length (A .edges)));
     lands = λ e low high. lands _ (A .edges) (i .at .edges) (i .formed .edges) e low (rw (i .at .ends) at high);
     weights = rw (edges-at (i .at), weights-are _ (A .edges) (i .at .edges), i .formed .weights, x .denominator) (N.le-refl (M .denominator));
   }

@@ -9,15 +9,15 @@ use Rattle.draft.proofs.call.stopped.Tie as tie
 
 returns : tie.Need-returns
 unfolding stopAnswer draftAnswer
-returns c = hands 58 _ (rw (c .before .stop .given .1)) refl
+returns c = hands 58 _ (rw (c .enum-told .given .1)) refl
 
 returns-2 : tie.Need-returns-2
 unfolding stopAnswer draftAnswer
-returns-2 c = hands 59 _ (rw (c .before .stop2 .given .1)) refl
+returns-2 c = hands 59 _ (rw (c .enum-told2 .given .1)) refl
 
 returns-3 : tie.Need-returns-3
 unfolding stopAnswer
-returns-3 c = hands-nothing _ (rw (c .enum-told .given .1))
+returns-3 c = hands-nothing 0 (rw (c .enum-told3 .given .1))
 
 pub stopped-spec : {M : Type 1} → statement M
 stopped-spec = tie.close (tie.spec (λ c. search needs) (λ c. search needs) (λ c. search needs) returns returns-2 returns-3)

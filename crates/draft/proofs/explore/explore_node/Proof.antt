@@ -7,7 +7,8 @@ use Rattle.zone.specs.Squares.{Tightens}
 use Rattle.zone.proofs.Sizes.{tightens-fewer}
 use Rattle.model.specs.Index.{Kept, keep}
 use Rattle.judge.proofs.ReachSizes.{waited-tightens}
-use Rattle.draft.proofs.ExploreNodes.{read-tightens, node-located, node-target, node-rows}
+use Rattle.zone.proofs.Sizes.{read-tightens}
+use Rattle.draft.proofs.ExploreNodes.{node-located, node-target, node-rows}
 use Rattle.draft.proofs.explore.explore_node.Statement.{statement}
 use Rattle.draft.proofs.explore.explore_node.Tie as tie
 
