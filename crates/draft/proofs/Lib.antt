@@ -24,3 +24,4 @@ pub mod ModelLaws
 pub mod FinishLaws
 pub mod CallLaws
 pub mod DraftCall
+pub mod Numbering
