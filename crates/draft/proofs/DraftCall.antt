@@ -1,12 +1,11 @@
 -- What the parts of the call return decides its answer and what it leaves in the lent words. Assumes nothing.
-use Prim.Native.Nat.{ℕ, _+_, _*_, _≤_, _<_, min}
+use Prim.Native.Nat.{ℕ, _*_, _≤_, _<_, min}
 use mathlib.Core.Path.{_≡_, refl, sym, ap, subst, _∙_}
-use mathlib.Core.List.{List, [], _∷_, map}
+use mathlib.Core.List.{List, [], map}
 use native.Mathlib.Omega.{arith}
 use lib.IntN.{ℤ}
-use lib.ListN.{length, take, length-map}
-use Rattle.zone.specs.Checks.{Answer, refused, accepted}
-use Rattle.zone.proofs.CheckLaws.{same-refusal}
+use lib.ListN.{length, length-map}
+use Rattle.zone.specs.Checks.{Answer, refused}
 use Rattle.model.specs.Model.{Model, modelOf}
 use Rattle.model.specs.Reading.{ReadModel, modelAnswer}
 use Rattle.model.specs.Index.{Kept, keep}

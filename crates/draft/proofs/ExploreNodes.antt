@@ -10,13 +10,9 @@ use native.Mathlib.Omega.{arith}
 use borrow.Author.Tests.{lt-ltb, le-ltb}
 use lib.ListN.{length, getD, set, take, drop, replicate, length-set, length-replicate}
 use lib.Seq.{take-suc-set, length-take-le, getD-set-same, getD-set-other}
-use Rattle.zone.specs.Squares.{universe, Tightens}
 use Rattle.zone.specs.Stores.{zoneAt}
-use Rattle.zone.specs.Words.{goodBound?}
-use Rattle.zone.specs.Reading.{readFrom, readZone, withWord}
+use Rattle.zone.specs.Reading.{readZone}
 use Rattle.zone.specs.declared.zones.Zone.{Zone as Square}
-use Rattle.zone.specs.declared.questions.ZoneRead.{ZoneRead}
-use Rattle.zone.proofs.Bools.{by-test}
 use Rattle.zone.proofs.Integers.{lt-or-ge}
 use Rattle.model.specs.Index.{Kept}
 use Rattle.model.proofs.ZoneLaws.{same-at}

@@ -20,7 +20,7 @@ use Rattle.model.proofs.ZoneLaws.{empty}
 use Rattle.model.proofs.GoodModel.{GoodModel}
 use Rattle.model.proofs.WellFormed.{WellFormed}
 use Rattle.table.specs.Table.{rowActions}
-use Rattle.drafting.specs.Exploring.{Found, FoundRow, Progress, done, andThen, noFound, nodeFor, nodesFrom, startZone, exploring}
+use Rattle.drafting.specs.Exploring.{Found, FoundRow, Progress, noFound, nodeFor, nodesFrom, startZone, exploring}
 use Rattle.drafting.specs.Words.{frontWords}
 use Rattle.drafting.proofs.Shares.{Valued}
 use Rattle.drafting.proofs.ExploreLaws.{Ready, Grown, grown-ready, grown-trans, grown-length, grown-at, node-found, rows-formed, rows-found, nodes-found}

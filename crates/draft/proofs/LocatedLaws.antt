@@ -1,6 +1,6 @@
 -- Every node that exploring finds is at a location that exists. Assumes nothing.
 use Prim.Native.Nat.{ℕ, zero, suc, _+_, _-_, _≤_, _<_}
-use mathlib.Core.Path.{_≡_, refl}
+use mathlib.Core.Path.{_≡_}
 use mathlib.Core.Logic.{_⊎_, inl, inr}
 use mathlib.Core.Bool.{Bool, false}
 use mathlib.Core.List.{List, [], _∷_, _++_}
@@ -11,7 +11,6 @@ use borrow.Author.Tests.{ltb-true}
 use lib.Dec.{ltb}
 use lib.ListN.{length, getD, length-append, List·getD-append}
 use lib.Seq.{getD-append-seam}
-use Rattle.zone.specs.Scale.{Zone}
 use Rattle.zone.specs.Squares.{resetSquare, empty?}
 use Rattle.zone.specs.Stores.{zoneAt}
 use Rattle.zone.specs.declared.zones.Zone.{Zone as Square}

@@ -27,7 +27,6 @@ use Rattle.drafting.proofs.ExploreLaws.{Writable, Ready, bounds-fit}
 use Rattle.draft.specs.Nodes.{sameWords?, knownFrom, Placing, addedTo, knownOr, placedIn}
 use Rattle.draft.specs.declared.nodes.Known.{Known as Lookup}
 use Rattle.draft.specs.declared.nodes.Known.the-variants as known
-use Rattle.draft.specs.declared.nodes.Stop.{Stop}
 use Rattle.draft.specs.declared.nodes.Stop.the-variants as stop
 
 -- ---- equal words

@@ -8,7 +8,7 @@ use native.Mathlib.Numerals.{add-one}
 use native.Mathlib.Omega.{arith}
 use borrow.Author.Tests.{eq-eqb, ne-eqb}
 use lib.ListN.{getD, set, length, replicate, length-set, length-replicate}
-use lib.Seq.{getD-set-other, set-getD}
+use lib.Seq.{set-getD}
 use Rattle.model.specs.Fields.{weightOf}
 use Rattle.model.specs.Index.{Kept}
 use Rattle.model.specs.declared.index.Index.{Index}

@@ -1,5 +1,5 @@
 -- What exploring and the rounds ask of what is kept of a model, and of the stores; what the stores are after a call. Assumes nothing.
-use Prim.Native.Nat.{ℕ, zero, suc, _+_, _*_, _≤_, _<_}
+use Prim.Native.Nat.{ℕ, zero, suc, _+_, _≤_, _<_}
 use mathlib.Core.Path.{_≡_}
 use mathlib.Core.List.{List, []}
 use lib.ListN.{getD, length}

@@ -1,6 +1,6 @@
 // The front words of a node: the word of its location, and those of its bounds.
 ghost use mathlib.Core.Path.{_≡_};
-ghost use Prim.Native.Nat.{_≤_, _<_};
+ghost use Prim.Native.Nat.{_<_};
 ghost use lib.Dec.{T};
 ghost use Rattle.drafting.specs.Words.{boundWord};
 ghost use Rattle.draft.specs.Fronts.{Clocks, narrowBound?, boundAt, zoneFrom, collected, FrontOf};

@@ -1,13 +1,13 @@
 // The values of a draft, round by round, from the codes of its rows.
 ghost use mathlib.Core.Path.{_≡_};
-ghost use Prim.Native.Nat.{_+_, _-_, _*_, _≤_, _<_, _^_, max, min};
+ghost use Prim.Native.Nat.{_+_, _-_, _*_, _≤_, _<_, max};
 ghost use lib.ListN.{getD, length};
 ghost use Rattle.model.specs.Index.{keep};
 ghost use Rattle.drafting.specs.Rounds.{roundedUp};
 ghost use Rattle.drafting.specs.Words.{whole};
 ghost use Rattle.draft.specs.Nodes.{frontsOf, Holds};
 ghost use Rattle.draft.specs.Asked.{weightsFrom, ModelAsked, Located, ValuesFit, EndsFit};
-ghost use Rattle.draft.specs.Values.{sumFrom, largestFrom, valueAt, beginOf, roundBelow, valuesOf};
+ghost use Rattle.draft.specs.Values.{sumFrom, largestFrom, beginOf, roundBelow, valuesOf};
 use crate::explore;
 use crate::nodes;
 use judge::landing;

@@ -2,10 +2,9 @@
 ghost use mathlib.Core.Path.{_≡_};
 ghost use mathlib.Core.List.{map, _++_};
 ghost use Prim.Native.Nat.{_+_, _-_, _*_, _≤_, _<_};
-ghost use lib.ListN.{length, drop, getD};
+ghost use lib.ListN.{length, drop};
 ghost use lib.Seq.{slice};
 ghost use Rattle.draft.specs.Nodes.{frontAt, HasNode};
-ghost use Rattle.draft.specs.Values.{beginOf};
 ghost use Rattle.draft.specs.Writing.{rowWord, nodeText, nodesText, draftText, written, LengthOf, Finishes, TextFits};
 use crate::explore;
 use crate::nodes::NODE_SLOT;

@@ -1,6 +1,6 @@
 -- What the input asks for, by the tests of its length. Assumes nothing.
 use Prim.Native.Nat.{ℕ, _<_, _≤_, _%_}
-use mathlib.Core.Path.{_≡_, refl, sym, ap, subst, _∙_}
+use mathlib.Core.Path.{_≡_, refl, ap, subst, _∙_}
 use mathlib.Core.List.{List, [], _∷_}
 use native.Mathlib.Omega.{arith}
 use lib.ListN.{length, getD, drop}

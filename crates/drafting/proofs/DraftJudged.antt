@@ -11,6 +11,7 @@ use Rattle.zone.specs.Checks.{Answer, refused, accepted, First, test}
 use Rattle.zone.proofs.CheckLaws.{first-all, first-holds}
 use Rattle.model.specs.Model.{Model, modelOf}
 use Rattle.model.specs.Reading.{modelChecks, countsOf, ReadModel}
+use Rattle.model.specs.declared.read.Counts.{Counts}
 use Rattle.model.proofs.WellFormed.{WellFormed, accepted-formed}
 use Rattle.table.specs.Table.{Table, nodeAt, tableOf}
 use Rattle.table.specs.Reading.{readChecks}
@@ -49,19 +50,15 @@ record GoodDraft (model : List ℕ) (rounds : ℕ) (words : List ℕ) : Type 0 w
 good-draft : {model : List ℕ} {rounds room : ℕ} {words : List ℕ} → Drafts model rounds room (accepted words) → GoodDraft model rounds words
 good-draft {model} {rounds} {room} {words} d =
     let M : Model = modelOf model in
-    let first = then-parts (First (modelChecks model) (λ (_ : Unit {0}). Unit {0})) (λ _. onFrom (exploring M []) (Ends M rounds room)) words
-    (d .says) in
+    let first = then-parts (ReadModel model) (λ counts. onFrom (exploring M []) (Ends M rounds room)) words (d .says) in
     let next = then-parts (exploring M []) (Ends M rounds room) words (first .2) in
     let t : Progress (List (List FoundRow)) = next .0 in
     let vs : List ℕ = next .2 .0 in
     let last = first-holds (test 60 0 (leb (length (wordsOf (t .found) vs (t .result))) room) ∷ []) (λ ws. ws ≡ wordsOf (t .found) vs (t .result))
     words (next .2 .2) in
     record {
-      reads = record {
-        says =
-            first-all (modelChecks model) (λ counts. counts ≡ countsOf model) (countsOf model)
-            (first-holds (modelChecks model) (λ (_ : Unit {0}). Unit {0}) (first .0) (first .1) .0) refl;
-      };
+      reads = subst (λ (c : Counts). ReadModel model (accepted c))
+          (first-holds (modelChecks model) (λ counts. counts ≡ countsOf model) (first .0) (first .1 .says) .1) (first .1);
       progress = t;
       explores = next .1;
       wrote = (vs, next .2 .1, last .1);
@@ -148,7 +145,7 @@ module _ (model : List ℕ) (reads : ReadModel model (accepted (countsOf model))
     certified-after = record {
       certificate = certificateOf W;
       judged = judged-after;
-      fraction = whole-after;
+      isWhole = whole-after;
       bounds = promised model (wordsAfter n) (accepted (certificateOf W)) judged-after;
     }
 
@@ -176,7 +173,7 @@ judged {model} {rounds} d =
     subst (CertifiedDraft model) (sym (words-are model (g .reads) (g .progress) (g .explores) d))
     (certified-after model (g .reads) (g .progress) (g .explores) (min rounds 1000))
 
--- ---- more rounds never give a larger fraction: V is the same, and b is never larger
+-- ---- more rounds never give a larger fraction: b is never larger, and V is 1,000,000 in both (`judged`)
 pub more-rounds : {model ws us : List ℕ} {r s room space : ℕ} → r ≤ s → Drafts model r room (accepted ws) → Drafts model s space (accepted us) →
     {c d : Certificate} → Judged model ws (accepted c) → Judged model us (accepted d) → d .b ≤ c .b
 more-rounds {model} {r = r} {s = s} l few many {c} {d} jc jd =

@@ -13,7 +13,7 @@ use Rattle.zone.proofs.Integers.{lt-or-ge}
 use Rattle.zone.proofs.CheckLaws.{first-one, same-refusal}
 use Rattle.model.specs.Model.{Edge, Action, Model, modelOf}
 use Rattle.model.specs.States.{locationAt}
-use Rattle.model.specs.Reading.{modelChecks}
+use Rattle.model.specs.Reading.{modelChecks, countsOf, ReadModel}
 use Rattle.table.specs.Table.{Row, blockedRow, successorRow, Body, rowsBody, cutBody, Node, Table, rowActions, tableOf}
 use Rattle.acceptance.specs.Acceptance.{Pairwise}
 use Rattle.acceptance.proofs.SumLaws.{sum-one}
@@ -195,8 +195,8 @@ module _ (M : Model) where
 -- ---- the call
 pub drafts-one : (model : List ℕ) (rounds room : ℕ) (a b : Answer (List ℕ)) → Drafts model rounds room a → Drafts model rounds room b → a ≡ b
 drafts-one model rounds room a b f g =
-    on-one (First (modelChecks model) (λ (_ : Unit {0}). Unit {0})) (λ _. onFrom (exploring (modelOf model) []) (Ends (modelOf model) rounds room))
-    (first-one (modelChecks model) (λ (_ : Unit {0}). Unit {0}) (λ x y p q. refl))
+    on-one (ReadModel model) (λ counts. onFrom (exploring (modelOf model) []) (Ends (modelOf model) rounds room))
+    (λ x y p q. first-one (modelChecks model) (λ counts. counts ≡ countsOf model) (λ c d e f. e ∙ sym f) x y (p .says) (q .says))
     (λ _. on-one (exploring (modelOf model) []) (Ends (modelOf model) rounds room) (exploring-one (modelOf model) [])
     (ends-one (modelOf model) rounds room))
     a b (f .says) (g .says)

@@ -6,7 +6,7 @@ use lib.Dec.{leb}
 use lib.ListN.{length, take, drop, replicate}
 use Rattle.zone.specs.Checks.{Answer, refused, accepted, test, First}
 use Rattle.model.specs.Model.{Model, modelOf}
-use Rattle.model.specs.Reading.{modelChecks}
+use Rattle.model.specs.Reading.{ReadModel}
 use Rattle.acceptance.specs.Schedulers.{BoundsEvery}
 use Rattle.acceptance.specs.Judging.{Judged}
 use Rattle.acceptance.specs.declared.certificate.Certificate.{Certificate}
@@ -24,8 +24,7 @@ Ends M rounds room s answer =
 -- the words of the draft for a model, where `room` words are lent; the model's own refusals come first
 pub record Drafts (model : List ℕ) (rounds room : ℕ) (answer : Answer (List ℕ)) : Type 0 where
   pub says :
-      onFrom (First (modelChecks model) (λ (_ : Unit {0}). Unit {0}))
-      (λ _. onFrom (exploring (modelOf model) []) (Ends (modelOf model) rounds room)) answer
+      onFrom (ReadModel model) (λ counts. onFrom (exploring (modelOf model) []) (Ends (modelOf model) rounds room)) answer
 
 -- the answer is the length of the draft
 unfoldable pub lengthOf : Answer (List ℕ) → Answer ℕ
@@ -51,7 +50,7 @@ pub record Drafted (model : List ℕ) (rounds : ℕ) (lent : List ℕ) (answer :
 pub record CertifiedDraft (model words : List ℕ) : Type 0 where
   pub certificate : Certificate
   pub judged : Judged model words (accepted certificate)
-  pub fraction : certificate .whole ≡ whole
+  pub isWhole : certificate .whole ≡ whole
   pub bounds : BoundsEvery (modelOf model) (certificate .b) (certificate .whole)
 
 -- of an answer: the table written stands at the front of the lent words

@@ -1,6 +1,5 @@
 -- Proof of `draft`: each return is card 5's answer by what its parts decide, and what is written is accepted.
-use Prim.Native.Nat.{ℕ, _*_, _≤_}
-use mathlib.Core.Path.{_≡_}
+use Prim.Native.Nat.{ℕ, _≤_}
 use mathlib.Core.List.{List, [], _∷_}
 use native.Mathlib.Omega.{arith}
 use borrow.Author.Needs.{needs}
@@ -9,7 +8,6 @@ use lib.ListN.{length}
 use types.Run.{miss}
 use Rattle.model.specs.Index.{StoresFit}
 use Rattle.judge.proofs.Answering.{ModelAccepted}
-use Rattle.draft.specs.Asked.{EndsFit}
 use Rattle.draft.proofs.ExploreCode.{stops}
 use Rattle.draft.proofs.ExploreNodes.{no-ends}
 use Rattle.draft.proofs.DraftCall.{refused-model, asked, start-asked, start-stops, first-located, explore-stops, finished}
