@@ -254,7 +254,8 @@ impl Side for UnderTest {
     }
 
     fn draft(&self, model: &[u32], rounds: u64, lent: &mut [u32]) -> Result<usize, Refusal> {
-        miss_chance::draft_into(model, rounds, lent).map_err(refused)
+        let answer = miss_chance::draft_into(model, rounds, lent);
+        answer.result().map_err(refused)
     }
 }
 

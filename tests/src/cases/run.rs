@@ -17,10 +17,10 @@ use crate::spell;
 const LEAST: [(&str, &[&str], usize); 6] = [
     ("zone cases", &["zone_empty", "zone_inside"], 519),
     ("model cases", &["read_model"], 1627),
-    ("judge cases", &["judge"], 3483),
+    ("judge cases", &["judge"], 3489),
     ("histories of a board", &["board"], 364),
-    ("drafts", &["draft"], 1),
-    ("whole files", &["program"], 4958),
+    ("drafts", &["draft"], 234),
+    ("whole files", &["program"], 5139),
 ];
 
 /// What a run came to.
