@@ -110,7 +110,7 @@ fn catch_wrong_judges() -> Result<(), Fault> {
     let as_plain = self_check::wrong_plain_drafts()?.len();
     println!("drafts caught in the place of the plain judge's, too: {as_plain}");
     for (name, before) in self_check::draft_flaws_against_law()? {
-        println!("what the card says of a draft objects after {before:>5} models: {name}");
+        println!("card 5 objects to a draft after {before:>5} models: {name}");
     }
     for (name, before) in self_check::flaws_against_player()? {
         println!("the player objects after {before:>5} answers: {name}");

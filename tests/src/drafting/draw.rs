@@ -26,6 +26,8 @@ pub fn directed() -> Vec<Vec<u32>> {
         }
     }
     models.extend(damaged());
+    models.sort();
+    models.dedup();
     models
 }
 

@@ -71,7 +71,7 @@ impl Values {
         let chosen = match self.flaw {
             DraftFlaw::TakesTheSmallestRow => sums.min(),
             DraftFlaw::TakesTheFirstRow => sums.next(),
-            DraftFlaw::TakesTheLastRow => sums.last(),
+            DraftFlaw::TakesTheLastRow => sums.next_back(),
             _ => sums.max(),
         };
         chosen.unwrap_or(if kept { WHOLE } else { 0 })
