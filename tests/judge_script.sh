@@ -1,6 +1,7 @@
 #!/usr/bin/env bash
 # Tests ./judge, the command for a person: what it reads, what it prints, its exit status, and that bad input gets no
-# verdict. The program asked is target/bin/judge_cli, built where needed, or the one that JUDGE_PROGRAM names.
+# verdict. The programs asked are target/bin/judge_cli and draft_cli, built where needed, or those that JUDGE_PROGRAM and
+# DRAFT_PROGRAM name.
 set -uo pipefail
 cd "$(dirname "$0")/.." || exit 1
 root=$PWD
@@ -92,7 +93,7 @@ while IFS='|' read -r _ files command prints _; do
     rows=$((rows + 1))
     listed+=$files
 done <examples/README.md
-if ((rows >= 6)); then ok; else wrong "examples/README.md lists only $rows commands"; fi
+if ((rows >= 7)); then ok; else wrong "examples/README.md lists only $rows commands"; fi
 for file in examples/*.hex; do
     if [[ $listed = *"\`${file##*/}\`"* ]]; then ok; else wrong "$file is not listed in examples/README.md"; fi
     if [[ $(head -n 1 "$file") = '# '* ]]; then ok; else wrong "$file does not begin with a line on what it shows"; fi
@@ -261,12 +262,110 @@ mum 'a verdict that cannot be written' 'could not be written' bash -c '"$@" >/de
 
 for option in --help -h; do
     run "$judge" $option
-    if ((status == 0)) && grep -q '^usage: ./judge FILE' "$work/out" && [[ ! -s $work/err ]]; then
+    if ((status == 0)) && grep -q '^usage: ./judge FILE' "$work/out" && grep -q 'judge --draft MODEL' "$work/out" && [[ ! -s $work/err ]]; then
         ok
     else
         wrong "$option: wanted the usage on standard output with status 0, got status $status"
     fi
 done
+
+# --- drafts
+
+# drafts NAME B NODES MODEL COMMAND..: it prints a table that the judge accepts for the model, with b = B and so many nodes, and says so in its
+# first line.
+drafts() {
+    local name=$1 b=$2 nodes=$3 of=$4
+    shift 4
+    run "$@"
+    if ((status != 0)) || ! head -n 1 "$work/out" | grep -q "^# drafted in .*: $nodes nodes\?, .* certifies $b / 1000000$"; then
+        wrong "$name: wanted a draft that says $b / 1000000, got '$(head -n 1 "$work/out")' with status $status: $(head -n 3 "$work/err")"
+        return
+    fi
+    cp "$work/out" "$here/drafted.hex"
+    says "$name, judged" "ACCEPTED $b 1000000 $nodes" "$judge" "$of" "$here/drafted.hex"
+}
+drafts 'two rounds' 100000 3 $model "$judge" --draft $model 2
+if cmp -s "$here/drafted.hex" examples/draft.hex; then ok; else wrong 'examples/draft.hex is not what ./judge --draft prints'; fi
+if [[ $(grep -c '^# node ' examples/draft.hex) = 3 ]] &&
+    grep -qx '# node 0: location 0, value 100000 / 1000000, rows: action 0 to nodes 1, 2' examples/draft.hex; then
+    ok
+else
+    wrong 'the nodes of examples/draft.hex have no comment'
+fi
+drafts 'no round' 1000000 3 $model "$judge" --draft $model 0
+drafts 'one round' 1000000 3 $model "$judge" --draft $model 1
+for rounds in 3 002 1000 1001 18446744073709551617 99999999999999999999; do
+    drafts "$rounds rounds" 100000 3 $model "$judge" --draft $model $rounds
+done
+drafts 'no number of rounds' 100000 3 $model "$judge" --draft $model
+if grep -q '^# drafted in 1000 rounds' "$here/drafted.hex"; then ok; else wrong 'without a number there are not 1000 rounds'; fi
+drafts 'a model of bytes' 100000 3 $model "$judge" --draft "$here/model.bin" 2
+cp "$here/model.bin" "$here/model.words"
+drafts '--bytes' 100000 3 $model "$judge" --draft --bytes "$here/model.words" 2
+drafts '--bytes first' 100000 3 $model "$judge" --bytes --draft "$here/model.words" 2
+drafts 'standard input' 100000 3 $model from $model "$judge" --draft - 2
+# as --help has it
+handed() {
+    "$judge" "$1" <("$judge" --draft "$1" 2)
+}
+says 'handed from one to the other' 'ACCEPTED 100000 1000000 3' handed $model
+for file in message:100000:7 propulsion:200000:5 split:200000:9; do # what is certified without a cut, where one helps
+    IFS=: read -r file b nodes <<<"$file"
+    hex "examples/$file.hex" | sed '/^7/,$d' >"$here/$file"
+    drafts "a draft for $file" "$b" "$nodes" "$here/$file" "$judge" --draft "$here/$file"
+done
+sed '5s/.*/50180FFD/' "$here/model" >"$here/blocked"
+drafts 'a blocked row' 0 1 "$here/blocked" "$judge" --draft "$here/blocked"
+if grep -q 'rows: action 0 blocked$' "$here/drafted.hex"; then ok; else wrong 'a blocked row of a draft is not named'; fi
+hex examples/propulsion.hex | sed '/^7/,$d; 9s/.*/51000FFF/' >"$here/nowhere" # every landing of an edge is outside
+drafts 'an empty zone' 200000 3 "$here/nowhere" "$judge" --draft "$here/nowhere"
+if grep -q '51000FFF  # nothing$' "$here/drafted.hex"; then ok; else wrong 'an empty zone of a draft is not named'; fi
+printf '%s\n' 11200001 20000000 51001001 30000000 50100FFF 40100001 60000000 51001000 52001000 >"$here/ticking"
+says 'a 65th node' 'REFUSED 58 0' "$judge" --draft "$here/ticking"
+sed '3s/.*/51001FFF/; 5s/.*/50100001/' "$here/ticking" >"$here/far"
+says 'a bound too far' 'REFUSED 59 0' "$judge" --draft "$here/far" 0
+sed '7s/.*/40020002/' "$here/model" >"$here/weights"
+says 'a refused model' 'REFUSED 4 7' "$judge" --draft "$here/weights"
+says 'a model with a table behind it, which has no place in a draft' 'REFUSED 1 11' "$judge" --draft "$here/words.hex"
+says 'a model of odd bytes' 'REFUSED 41 0' "$judge" --draft "$here/odd.bin"
+says 'no bytes of a model to draft for' 'REFUSED 1 0' "$judge" --draft "$here/empty.bin"
+says 'a model of 65,536 bytes' 'REFUSED 1 0' "$judge" --draft "$here/zeros.bin"
+says 'a model of 65,537 bytes' 'REFUSED 42 0' "$judge" --draft "$here/more.bin"
+says 'a model of 16,385 words' 'REFUSED 42 0' "$judge" --draft "$here/over.hex"
+mum 'no model' 'usage:' "$judge" --draft
+mum 'no model but --bytes' 'usage:' "$judge" --draft --bytes
+mum 'three names' 'usage:' "$judge" --draft $model 2 3
+mum 'a model that is not there' 'absent.hex: no such file' "$judge" --draft "$here/absent.hex"
+mum 'a model of prose' 'README.md: line 3: "Each"' "$judge" --draft examples/README.md
+for rounds in two 1.5 0x10 +2 '' '2 3' $table; do
+    mum "'$rounds' rounds" "$rounds: no number of rounds" "$judge" --draft $model "$rounds"
+done
+mum 'fewer than 0 rounds' '-1: no such option' "$judge" --draft $model -1
+mum 'a draft that cannot be written' 'could not be written' bash -c '"$@" >/dev/full' - "$judge" --draft $model
+
+# drafter NAME TEXT SCRIPT: the script as the program that drafts
+drafter() {
+    printf '#!/usr/bin/env bash\n%s\n' "$3" >"$here/drafter" && chmod +x "$here/drafter"
+    mum "a drafting program that $1" "$2" env DRAFT_PROGRAM="$here/drafter" "$judge" --draft $model
+}
+hex examples/draft.hex >"$here/draft.lines"
+drafter 'fails' 'failed with status 3' 'echo REFUSED 1 0; exit 3'
+drafter 'prints nothing' 'did not print a draft' 'true'
+drafter 'prints a verdict' 'did not print a draft' 'echo ACCEPTED 1 10 3'
+drafter 'refuses with a word too many' 'did not print a draft' 'echo REFUSED 1 0 0'
+drafter 'refuses twice' 'did not print a draft' 'echo REFUSED 1 0; echo REFUSED 1 0'
+drafter 'refuses and ends no line' 'one line' 'printf "REFUSED 1 0"'
+drafter 'refuses and drafts' 'did not print a draft' "echo REFUSED 1 0; cat '$here/draft.lines'"
+drafter 'stops short' 'did not print a draft' "head -n 15 '$here/draft.lines'"
+drafter 'stops within a word' 'did not print a draft' "head -c 140 '$here/draft.lines'"
+drafter 'ends no line' 'did not print a draft' "head -c 143 '$here/draft.lines'"
+drafter 'prints lower case' 'did not print a draft' "tr A-F a-f <'$here/draft.lines'"
+drafter 'prints a NUL byte' 'did not print a draft' "cat '$here/draft.lines'; printf '\\0'"
+drafter 'prints an empty line' 'did not print a draft' "cat '$here/draft.lines'; echo"
+drafter 'prints a draft twice' 'did not print a draft' "cat '$here/draft.lines' '$here/draft.lines'"
+drafter 'leaves out a successor' 'did not print a draft' "sed 7d '$here/draft.lines'"
+drafter 'writes two words on a line' 'did not print a draft' "paste -d '' - - <'$here/draft.lines'"
+mum 'a drafting program that is not there' 'no such program' env DRAFT_PROGRAM="$here/absent" "$judge" --draft $model
 
 # --- a program that fails gives no verdict
 
@@ -293,6 +392,7 @@ says 'JUDGE_PROGRAM by its name alone' 'REFUSED 7 5' within "$here" env JUDGE_PR
 # --- the program is built where it is missing or older than a source: a copy of the script with a stand-in for rt
 
 real=${JUDGE_PROGRAM:-$root/target/bin/judge_cli}
+real_drafter=${DRAFT_PROGRAM:-$root/target/bin/draft_cli}
 copy="$work/a copy"
 tools="$work/tools"
 mkdir -p "$copy/crates/judge_cli/src" "$tools" "$work/with"
@@ -307,11 +407,16 @@ echo "said by rt in \$PWD: \$*"
 echo run >>"$work/runs"
 [[ ! -e "$work/broken" ]] || exit 1
 [[ ! -e "$work/lazy" ]] || exit 0
-mkdir -p target/bin && cp "$real" target/bin/judge_cli
+mkdir -p target/bin
+case \$2 in
+judge_cli) cp "$real" target/bin/judge_cli ;;
+draft_cli) cp "$real_drafter" target/bin/draft_cli ;;
+esac
 END
 chmod +x "$work/with/rt"
 : >"$work/runs"
 ask=(env -u JUDGE_PROGRAM "PATH=$work/with:$PATH" "$copy/judge" "$here/words.hex")
+ask_draft=(env -u JUDGE_PROGRAM -u DRAFT_PROGRAM "PATH=$work/with:$PATH" "$copy/judge" --draft "$here/model")
 bare=(env -u JUDGE_PROGRAM "PATH=$tools" "$copy/judge" "$here/words.hex")
 
 # builds NAME COUNT: so many builds so far
@@ -358,6 +463,18 @@ sleep 0.01
 rm "$copy/crates/judge_cli/src/main.rt"
 says 'a source taken away' "$good" "${ask[@]}"
 builds 'a source taken away' 7
+
+mum 'a draft by a program that is not built' 'rt, the Rattle toolchain' env -u DRAFT_PROGRAM "PATH=$tools" "$copy/judge" --draft "$here/model"
+mum 'bad rounds are told before a build' 'no number of rounds' "${ask_draft[@]}" many
+builds 'bad rounds' 7
+touch "$work/broken"
+mum 'a drafting program that cannot be built' "said by rt in $copy: check draft_cli" "${ask_draft[@]}"
+rm "$work/broken"
+run "${ask_draft[@]}"
+if grep -q 'rt check draft_cli' "$work/err"; then ok; else wrong 'a build of the drafting program is not announced'; fi
+drafts 'no second build of it' 100000 3 $model "${ask_draft[@]}"
+builds 'the drafting program' 9
+drafts 'a draft with bash, coreutils and awk alone' 100000 3 $model env -u DRAFT_PROGRAM "PATH=$tools" "$copy/judge" --draft "$here/model"
 
 # --- nothing is left behind
 

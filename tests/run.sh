@@ -4,12 +4,12 @@
 set -euo pipefail
 cd "$(dirname "$0")/.."
 mkdir -p target/log
-unset JUDGE_PROGRAM MISS_CHANCE_LIB_DIR # the proved program and library, and no other
+unset JUDGE_PROGRAM DRAFT_PROGRAM MISS_CHANCE_LIB_DIR # the proved programs and library, and no others
 build() { # quiet unless it fails
     "$@" >target/log/outside.out 2>&1 || { cat target/log/outside.out; exit 1; }
 }
 build rt staticlib miss_chance
-build rt check judge_cli
+build rt check judge_cli draft_cli
 
 echo "== no branch in the methods of a bound and of a zone"
 for methods in 'impl Bound' 'impl Zone'; do # by their source: document 02, card 2
@@ -19,12 +19,17 @@ for methods in 'impl Bound' 'impl Zone'; do # by their source: document 02, card
 done
 echo '== the Rust package'
 cargo test --release --quiet --locked --offline --manifest-path bindings/rust/Cargo.toml
-board=$'ACCEPTED 2 10 3\nACCEPTED 1 10 3\nREFUSED 56 0\nRANKED 9 4' # the example of a board says the same in Rust and in C
-said=$(cargo run --release --quiet --locked --offline --manifest-path bindings/rust/Cargo.toml --example board)
-[[ $said = "$board" ]] || { echo "the Rust example of a board said: $said"; exit 1; }
+declare -A wanted=( # these examples say the same in Rust and in C
+    [board]=$'ACCEPTED 2 10 3\nACCEPTED 1 10 3\nREFUSED 56 0\nRANKED 9 4'
+    [draft]=$'DRAFTED 16\nACCEPTED 1000000 1000000 3\nDRAFTED 16\nACCEPTED 100000 1000000 3\nREFUSED 60 0'
+)
+for name in "${!wanted[@]}"; do
+    said=$(cargo run --release --quiet --locked --offline --manifest-path bindings/rust/Cargo.toml --example "$name")
+    [[ $said = "${wanted[$name]}" ]] || { echo "the Rust example $name said: $said"; exit 1; }
+done
 tests/rust_package.sh
 echo '== C and C++'
-declare -A wanted=([example]=$'ACCEPTED 1 10 3\nREFUSED 19 4' [board]=$board)
+wanted[example]=$'ACCEPTED 1 10 3\nREFUSED 19 4'
 for compiler in 'gcc -std=c99' 'g++ -std=c++11'; do # g++ takes a .c file as C++
     for name in "${!wanted[@]}"; do
         $compiler -Wall -Wextra -pedantic -Werror -Ibindings/c "bindings/c/$name.c" target/staticlib/libmiss_chance.a -o target/c_example

@@ -1,33 +1,34 @@
 /*
- * The miss-chance judge, for C and C++: four calls over lists of 32-bit words and two over a board of slots, as document 01 ("The miss-chance
+ * The miss-chance judge, for C and C++: five calls over lists of 32-bit words and two over a board of slots, as document 01 ("The miss-chance
  * judge: timelines, tables and the bound they certify") and document 02, the change requests to it, define them; docs/FORMAT.md of the
  * repository says what the words are, docs/REFUSALS.md what each refusal means. Link with target/staticlib/libmiss_chance.a, which
  * `rt staticlib miss_chance` proves and writes at the repository's root (x86-64, System V calling convention).
  *
- * THE ANSWER. Each of the four calls writes its answer to the first four words of `answer` and returns true:
+ * THE ANSWER. Each of the five calls writes its answer to the first four words of `answer` and returns true:
  *
  *   word 0             word 1    word 2   word 3
  *   0 (acceptance)     value     value    value    the values that the call gives, zeros where it gives fewer than three
  *   refusal's number   place     0        0        the place is a word index from 0, or the length where a word is lacking
  *
- * All four are written each time, so nothing of an earlier answer stays in them. Words of `answer` behind the fourth are left as they are.
+ * All four words are written each time, so nothing of an earlier answer stays in them. Words of `answer` behind the fourth are left as they are.
  * If `answer_words` is below MISS_CHANCE_ANSWER_WORDS, nothing is written and the call returns false; it never returns false otherwise. The two
  * calls of the board return their answer as a struct.
  *
- * WHAT THE CALLER OWES. Every list is a pointer and a length in words or slots, not in bytes. Each pointer must be non-null and aligned for
- * its type (4 bytes for uint32_t and slots, 8 for uint64_t), for a list of length 0 too, and the list must stay readable and unchanged,
- * `answer` and the slots of a submission writable, until the call returns. These two must not overlap a list that is read; lists that are only
- * read may overlap. A list may hold any words and have any length: every input has an answer. Of a slot, `held` must be 0 or 1, as C has it of
- * a bool; its other fields may be anything. A word is a number, so words from a file, highest byte first, are put together first.
+ * WHAT THE CALLER OWES. Every list is a pointer and a length in words or slots, not in bytes. Each pointer must be non-null and aligned for its
+ * type (4 bytes for uint32_t and slots, 8 for uint64_t), for a list of length 0 too, and the list must stay readable and unchanged, `answer`,
+ * the table of a draft and the slots of a submission writable, until the call returns. These must overlap neither one another nor a list that is
+ * read; lists that are only read may overlap. A list may hold any words and have any length: every input has an answer. Of a slot, `held` must
+ * be 0 or 1, as C has it of a bool; its other fields may be anything. A word is a number, so words from a file, highest byte first, are put
+ * together first.
  *
- * WHAT THE CALLS DO NOT DO. They read the lists and write `answer`, or the slot of a submission that is accepted, and touch nothing else of
- * the caller's. They keep no pointer and no state between calls, allocate nothing, and are safe from several threads at once, as long as no
- * two share an `answer` and none uses slots while another submits for them. Of the C library they need memcpy and memset, which the linker
- * finds as for any C program.
+ * WHAT THE CALLS DO NOT DO. They read the lists and write `answer`, the table of a good draft or the slot of a submission that is accepted, and
+ * touch nothing else of the caller's. They keep no pointer and no state between calls, allocate nothing, and are safe from several threads at
+ * once, as long as no two share an `answer` or the table of a draft and none uses slots while another submits for them. Of the C library they
+ * need memcpy and memset, which the linker finds as for any C program.
  *
  * STACK. The need is bounded and does not grow with the input: there is no recursion, and every frame has a fixed size. Measured on
- * x86-64: about 16 KiB for miss_chance_judge, 17 KiB for miss_chance_submit, 7 KiB for miss_chance_read_model, 4 KiB for miss_chance_rank,
- * 1 KiB for the two questions about zones. A thread with 256 KiB of stack is enough for each call.
+ * x86-64: about 16 KiB for miss_chance_judge, 24 KiB for miss_chance_draft, 17 KiB for miss_chance_submit, 7 KiB for miss_chance_read_model,
+ * 4 KiB for miss_chance_rank, 1 KiB for the two questions about zones. A thread with 256 KiB of stack is enough for each call.
  */
 #ifndef MISS_CHANCE_H
 #define MISS_CHANCE_H
@@ -42,6 +43,12 @@ extern "C" {
 
 /* How many words an answer takes. */
 #define MISS_CHANCE_ANSWER_WORDS 4
+
+/*
+ * No draft takes more words than this: a head and the start node, and 64 nodes, each with its word, 20 bounds, its value and rows of 128 words
+ * (32 actions of 4 edges). With so many lent none is refused with MISS_CHANCE_TOO_FEW_WORDS.
+ */
+#define MISS_CHANCE_DRAFT_WORDS 9602
 
 /*
  * Word 0 of an answer, or its `number`: the numbers of documents 01 and 02, each with one name, the one that it has in the Rust package too.
@@ -86,7 +93,12 @@ enum miss_chance_number {
     /* A board, before the judge is asked; the place is 0. */
     MISS_CHANCE_BOARD_OUT_OF_RANGE = 54, /* not 16 slots, a held slot out of range, or allowance, team or slot number out of range */
     MISS_CHANCE_ALLOWANCE_SPENT = 55,    /* the allowance is spent */
-    MISS_CHANCE_SLOT_HELD_BY_OTHER = 56  /* another team holds the slot */
+    MISS_CHANCE_SLOT_HELD_BY_OTHER = 56, /* another team holds the slot */
+
+    /* A draft, behind the model's own refusals; the place is 0. */
+    MISS_CHANCE_TOO_MANY_NODES = 58, /* the draft would have a 65th node */
+    MISS_CHANCE_BOUND_TOO_FAR = 59,  /* a node would have a bound beyond 4,095 either way */
+    MISS_CHANCE_TOO_FEW_WORDS = 60   /* the words lent for the table are too few */
 };
 
 /*
@@ -94,6 +106,16 @@ enum miss_chance_number {
  * model, which come first, then 11 to 21 and 51 to 53 with their place in the table.
  */
 bool miss_chance_judge(const uint32_t *model, size_t model_words, const uint32_t *table, size_t table_words, uint64_t *answer,
+                       size_t answer_words);
+
+/*
+ * Drafts a table for a model (document 02, card 5): explored forward from the start, with V 1,000,000 and values after so many rounds; above 1,000
+ * they count as 1,000. Acceptance: 0, the length of the draft, which stands in the first words of `table`, then zeros. miss_chance_judge accepts
+ * every draft, after 0 rounds too, and more rounds never give a larger fraction. Refusals: 1 to 6 with their place in the model, which come first,
+ * then 58 to 60 with place 0. A refused draft leaves `table` as it was, and a good one the words past its end. draft.c beside this file is a whole
+ * example.
+ */
+bool miss_chance_draft(const uint32_t *model, size_t model_words, uint64_t rounds, uint32_t *table, size_t table_words, uint64_t *answer,
                        size_t answer_words);
 
 /* Reads a model. Acceptance: 0, then the counts of locations, actions and edges. Refusals: 1 to 6. */

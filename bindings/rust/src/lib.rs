@@ -1,9 +1,10 @@
-//! The miss-chance judge: six calls, as document 01 ("The miss-chance judge: timelines, tables and
-//! the bound they certify") and document 02, the change requests to it, define them. Four are over
+//! The miss-chance judge: seven calls, as document 01 ("The miss-chance judge: timelines, tables and
+//! the bound they certify") and document 02, the change requests to it, define them. Five are over
 //! lists of 32-bit words, of which docs/FORMAT.md of the repository says what they are: [`judge`],
-//! [`read_model`], [`zone_empty`] and [`zone_inside`]. Two are over a board of slots that takes its
-//! fractions from the judge alone: [`submit`] and [`rank`], which [`Board`] puts together. The work
-//! is done by a verified library; this crate lends it slices and turns its answers into enums.
+//! [`draft`], [`read_model`], [`zone_empty`] and [`zone_inside`]. Two are over a board of slots that
+//! takes its fractions from the judge alone: [`submit`] and [`rank`], which [`Board`] puts together.
+//! The work is done by a verified library; this crate lends it slices and turns its answers into
+//! enums.
 //!
 //! Document 01's worked timeline and its table:
 //!
@@ -38,10 +39,11 @@
 //! ```
 //!
 //! Every input has an answer. A word is a number, so words from a file, highest byte first, are put
-//! together first (`u32::from_be_bytes`). The calls keep no state but what the caller lends,
-//! allocate nothing and may run in several threads at once. A thread with 256 KiB of stack is
-//! enough for each: [`judge`] takes about 16 KiB, [`submit`] 17 KiB, [`read_model`] 7 KiB, [`rank`]
-//! 4 KiB, the two questions 1 KiB, whatever the input.
+//! together first (`u32::from_be_bytes`). The calls keep no state but what the caller lends, and
+//! may run in several threads at once; only [`draft`] allocates, for the table that it gives, and
+//! [`draft_into`] does without. A thread with 256 KiB of stack is enough for each: [`judge`] takes
+//! about 16 KiB, [`draft`] 24 KiB, [`submit`] 17 KiB, [`read_model`] 7 KiB, [`rank`] 4 KiB, the two
+//! questions 1 KiB, whatever the input.
 //!
 //! # The library
 //!
@@ -58,6 +60,7 @@
 #![deny(unsafe_code)]
 
 mod board;
+mod draft;
 mod model;
 #[cfg(test)]
 mod numbers_test;
@@ -72,6 +75,7 @@ mod words;
 mod zone;
 
 pub use board::Board;
+pub use draft::{DraftAnswer, DraftLength, DRAFT_WORDS};
 pub use model::{Counts, ModelAnswer};
 pub use ranking::{RankAnswer, Ranking};
 pub use reason::Reason;
@@ -83,6 +87,51 @@ pub use zone::{Emptiness, Inclusion};
 /// Judges a table against a model. The model's refusal, if any, comes first.
 pub fn judge(model: &[u32], table: &[u32]) -> Verdict {
     Verdict::of_judge(raw::judge(model, table))
+}
+
+/// Drafts a table for a model: symbolic states explored forward from the start, with values out of
+/// V = 1,000,000 after so many rounds. [`judge`] accepts every draft, after 0 rounds too, when every
+/// value is V; more rounds never give a larger fraction, and those above 1,000 count as 1,000.
+///
+/// ```
+/// use miss_chance::{draft, judge};
+///
+/// let model = [
+///     0x1110000A, 0x20000000, 0x51001003, 0x30000000, 0x50100FFE, 0x40010009, 0x40020001,
+///     0x20000000, 0x20000001, 0x60000000, 0x51001000,
+/// ];
+/// let table = draft(&model, 2).result()?;
+/// assert_eq!(table.len(), 16);
+/// let certificate = judge(&model, &table).result()?;
+/// assert_eq!((certificate.b, certificate.whole), (100_000, 1_000_000)); // 1 in 10
+/// # Ok::<(), miss_chance::Refusal>(())
+/// ```
+///
+/// # Errors
+///
+/// Those of [`read_model`] with their place in the model; then, place 0, as soon as a node is found
+/// that is not there yet, 58 where it is a 65th and 59 where it would have a bound beyond 4,095
+/// either way.
+pub fn draft(model: &[u32], rounds: u64) -> DraftAnswer {
+    let mut table = vec![0; DRAFT_WORDS];
+    match draft_into(model, rounds, &mut table) {
+        DraftLength::Drafted(length) => {
+            table.truncate(length);
+            table.shrink_to_fit();
+            DraftAnswer::Drafted(table)
+        }
+        DraftLength::Refused(refusal) => DraftAnswer::Refused(refusal),
+    }
+}
+
+/// The same into words that the caller lends; [`DRAFT_WORDS`] are enough for every draft. Those past
+/// the end of the draft stay as they are, and where it is refused all of them.
+///
+/// # Errors
+///
+/// Those of [`draft`], and behind them 60 where the words are too few.
+pub fn draft_into(model: &[u32], rounds: u64, table: &mut [u32]) -> DraftLength {
+    DraftLength::from_words(raw::draft(model, rounds, table), table.len())
 }
 
 /// Reads a model.

@@ -6,7 +6,9 @@ use std::panic::catch_unwind;
 
 use crate::raw::Ranked;
 use crate::words::Words;
-use crate::{Emptiness, Inclusion, ModelAnswer, RankAnswer, Reason, Refusal, Verdict, SLOTS};
+use crate::{
+    DraftLength, Emptiness, Inclusion, ModelAnswer, RankAnswer, Reason, Refusal, Verdict, SLOTS,
+};
 
 /// Of the numbers 1 to 99 those listed give a refusal with the same number, the others panic.
 fn check<A: Debug>(read: fn(Words) -> A, refusal: fn(A) -> Option<Refusal>, listed: &[u32]) {
@@ -33,6 +35,12 @@ fn numbers_of_each_answer() {
     check(Verdict::of_judge, Verdict::refusal, &verdicts);
     check(Verdict::of_submission, Verdict::refusal, &submissions);
     check(rank_refused, RankAnswer::refusal, &[54]);
+    let drafts: Vec<u32> = (1..=6).chain(58..=60).collect();
+    check(
+        |words| DraftLength::from_words(words, 0),
+        DraftLength::refusal,
+        &drafts,
+    );
     check(
         ModelAnswer::from_words,
         ModelAnswer::refusal,
@@ -58,6 +66,18 @@ fn a_value_over_32_bits() {
 #[should_panic(expected = "libmiss_chance.a answered judge with [4294967297, 0, 0, 0]")]
 fn a_number_over_32_bits() {
     let _ = Verdict::of_judge([(1 << 32) + 1, 0, 0, 0]);
+}
+
+#[test]
+fn a_draft_that_fills_what_is_lent() {
+    let answer = DraftLength::from_words([0, 16, 0, 0], 16);
+    assert_eq!(answer, DraftLength::Drafted(16));
+}
+
+#[test]
+#[should_panic(expected = "libmiss_chance.a answered draft with [0, 17, 0, 0]")]
+fn a_draft_longer_than_what_is_lent() {
+    let _ = DraftLength::from_words([0, 17, 0, 0], 16);
 }
 
 /// A ranking that is refused with these words.

@@ -1,4 +1,4 @@
-//! The library's calls: four write their answer to four words, the two of a board return theirs as
+//! The library's calls: five write their answer to four words, the two of a board return theirs as
 //! a struct. All `unsafe` code is here.
 
 use crate::words::Words;
@@ -42,6 +42,16 @@ extern "C" {
         model: *const u32,
         model_words: usize,
         table: *const u32,
+        table_words: usize,
+        answer: *mut u64,
+        answer_words: usize,
+    ) -> bool;
+
+    fn miss_chance_draft(
+        model: *const u32,
+        model_words: usize,
+        rounds: u64,
+        table: *mut u32,
         table_words: usize,
         answer: *mut u64,
         answer_words: usize,
@@ -95,6 +105,23 @@ pub(crate) fn judge(model: &[u32], table: &[u32]) -> Words {
             model.as_ptr(),
             model.len(),
             table.as_ptr(),
+            table.len(),
+            answer.as_mut_ptr(),
+            answer.len(),
+        )
+    };
+    checked(written, answer)
+}
+
+pub(crate) fn draft(model: &[u32], rounds: u64, table: &mut [u32]) -> Words {
+    let mut answer = [0; 4];
+    // SAFETY: as in `judge`; `table` too is borrowed by nobody else, and `rounds` may be any number.
+    let written = unsafe {
+        miss_chance_draft(
+            model.as_ptr(),
+            model.len(),
+            rounds,
+            table.as_mut_ptr(),
             table.len(),
             answer.as_mut_ptr(),
             answer.len(),

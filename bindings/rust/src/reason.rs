@@ -61,6 +61,10 @@ reasons! {
     BoardOutOfRange = 54: "not 16 slots, a held slot out of range, or allowance, team or slot number out of range", "0";
     AllowanceSpent = 55: "the allowance is spent", "0";
     SlotHeldByOther = 56: "another team holds the slot", "0";
+
+    TooManyNodes = 58: "the draft would have a 65th node", "0";
+    BoundTooFar = 59: "a node of the draft would have a bound beyond 4,095 either way", "0";
+    TooFewWords = 60: "the words lent for the draft are too few", "0";
 }
 
 impl Reason {

@@ -16,7 +16,7 @@ pub struct Refusal {
     pub reason: Reason,
     /// The index of a word, from 0; the length of the list if a word is lacking. It lies in the
     /// model for numbers 1 to 6, in the table for 11 to 21 and 51 to 53, in the zone with the bad
-    /// word for 32 and 33. For 31 and 54 to 56, which are about no word, it is 0.
+    /// word for 32 and 33. For 31, 54 to 56 and 58 to 60, which are about no word, it is 0.
     pub place: usize,
 }
 

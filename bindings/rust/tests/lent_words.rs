@@ -15,6 +15,16 @@ extern "C" {
         answer_words: usize,
     ) -> bool;
 
+    fn miss_chance_draft(
+        model: *const u32,
+        model_words: usize,
+        rounds: u64,
+        table: *mut u32,
+        table_words: usize,
+        answer: *mut u64,
+        answer_words: usize,
+    ) -> bool;
+
     fn miss_chance_read_model(
         model: *const u32,
         model_words: usize,
@@ -51,6 +61,21 @@ fn judge(model: &[u32], table: &[u32], answer: &mut [u64]) -> bool {
             model.as_ptr(),
             model.len(),
             table.as_ptr(),
+            table.len(),
+            answer.as_mut_ptr(),
+            answer.len(),
+        )
+    }
+}
+
+fn draft(model: &[u32], table: &mut [u32], answer: &mut [u64]) -> bool {
+    // SAFETY: as above.
+    unsafe {
+        miss_chance_draft(
+            model.as_ptr(),
+            model.len(),
+            2,
+            table.as_mut_ptr(),
             table.len(),
             answer.as_mut_ptr(),
             answer.len(),
@@ -152,6 +177,22 @@ fn empty_lists() {
     check(|answer| read_model(&[], answer), [1, 0, 0, 0]);
     check(|answer| zone_empty(1, &[], answer), [0, 0, 0, 0]);
     check(|answer| zone_inside(1, &[], &[], answer), [0, 1, 0, 0]);
+}
+
+/// Fewer than four words for the answer leave those for the table alone too.
+#[test]
+fn drafts() {
+    for (model, room, expected) in [
+        (&M[..], 16, [0, 16, 0, 0]),
+        (&M[..], 15, [60, 0, 0, 0]),
+        (&M[..9], 16, [1, 9, 0, 0]),
+        (&[], 0, [1, 0, 0, 0]),
+    ] {
+        check(|answer| draft(model, &mut vec![7; room], answer), expected);
+        let mut table = vec![7; room];
+        assert!(!draft(model, &mut table, &mut [STALE; 3]));
+        assert_eq!(table, vec![7; room]);
+    }
 }
 
 #[test]

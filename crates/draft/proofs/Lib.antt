@@ -1,6 +1,26 @@
--- The laws of `draft`, none of which uses a later one: how codes stand for rows, what the stores hold of each node, that the words put together from
--- them are those of the draft, and that rounds over them are those of the draft; proofs of functions stand in folders of their own.
+-- The laws of `draft`, none of which uses a later one: the words of a node's location and bounds, nodes in a store, square tables against the zones of
+-- card 5, exploring and its code, the words of a draft and its values and their code, what the functions ask of a model, the last answer, the call;
+-- proofs of functions stand in folders of their own.
+pub mod KeyWordLaws
+pub mod FrontLaws
+pub mod NodeLaws
+pub mod LimitLaws
+pub mod SmallestLaws
+pub mod LandedLaws
+pub mod PlacingLaws
 pub mod Coding
+pub mod DrawingLaws
+pub mod ExploringLaws
+pub mod ExploredLaws
+pub mod LocatedLaws
+pub mod ExploreCode
+pub mod ExploreNodes
 pub mod CodeLaws
 pub mod TextLaws
 pub mod ValueLaws
+pub mod RoundCode
+pub mod WritingLaws
+pub mod ModelLaws
+pub mod FinishLaws
+pub mod CallLaws
+pub mod DraftCall

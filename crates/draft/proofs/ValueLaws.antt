@@ -175,14 +175,14 @@ module _ (x : Index) (es nodes codes ends : List ℕ) where
   below-length : (n : ℕ) (vs : List ℕ) → length (roundBelow x es nodes codes ends n vs) ≡ length vs
   unfolding roundBelow
   below-length zero vs = refl
-  below-length (suc n) vs = length-set (roundBelow x es nodes codes ends n vs) n (after vs n) ∙ below-length n vs
+  below-length (suc n) vs = length-set (roundBelow x es nodes codes ends n vs) n _ ∙ below-length n vs
 
   -- the values from number n on stay
-  below-past : (n : ℕ) (vs : List ℕ) (i : ℕ) → n ≤ i → getD (roundBelow x es nodes codes ends n vs) i 0 ≡ getD vs i 0
+  pub below-past : (n : ℕ) (vs : List ℕ) (i : ℕ) → n ≤ i → getD (roundBelow x es nodes codes ends n vs) i 0 ≡ getD vs i 0
   unfolding roundBelow
   below-past zero vs i h = refl
   below-past (suc n) vs i h =
-      getD-set-other (roundBelow x es nodes codes ends n vs) n i (after vs n) 0 (λ e. omega arith) ∙ below-past n vs i (omega arith)
+      getD-set-other (roundBelow x es nodes codes ends n vs) n i _ 0 (λ e. omega arith) ∙ below-past n vs i (omega arith)
 
   below-at : (n : ℕ) (vs : List ℕ) → n ≤ length vs → (i : ℕ) → i < n → getD (roundBelow x es nodes codes ends n vs) i 0 ≡ after vs i
   unfolding roundBelow

@@ -22,10 +22,12 @@ unfoldable pub weightsFrom : List ℕ → ℕ → ℕ → ℕ
 weightsFrom es zero e = 0
 weightsFrom es (suc n) e = weightOf (getD es e 0) + weightsFrom es n (suc e)
 
--- the guard of the action a can be tightened, it has at most four edges, they land at locations that exist, and their weights come to D at most
+-- the guard of the action a can be tightened, its edges are at most four and end where they begin or later, they land at locations that exist, and
+-- their weights come to D at most
 pub record ActionAsked (m : Kept) (a : ℕ) : Type 0 where
   pub guard : Tightens 2 (zoneAt (m .zones) (guardsAt + a))
   pub few : edgesAt (m .index) a ≤ 4
+  pub rises : getD (m .index .edges) a 0 ≤ getD (m .index .edges) (suc a) 0
   pub lands : (e : ℕ) → getD (m .index .edges) a 0 ≤ e → e < getD (m .index .edges) (suc a) 0 → landsAt (getD (m .edges) e 0) < m .index .locations
   pub weights : weightsFrom (m .edges) (edgesAt (m .index) a) (getD (m .index .edges) a 0) ≤ m .index .denominator
 
@@ -51,11 +53,13 @@ pub record Roomy (nodes codes : List ℕ) (x : Extent) (more : ℕ) : Type 0 whe
   pub holds : Holds nodes (x .nodes)
   pub room : x .codes + more ≤ length codes
 
--- stores after a call are as long as before, hold what is found then, and have at most so many codes more
+-- stores after a call are as long as before, hold what is found then, no fewer nodes and codes than before, and at most so many codes more
 pub record Grown (nodes codes nodes′ codes′ : List ℕ) (x y : Extent) (more : ℕ) : Type 0 where
   pub holds : Holds nodes′ (y .nodes)
   pub nodeRoom : length nodes′ ≡ length nodes
   pub codeRoom : length codes′ ≡ length codes
+  pub moreNodes : x .nodes ≤ y .nodes
+  pub moreCodes : x .codes ≤ y .codes
   pub few : y .codes ≤ x .codes + more
 
 -- of values, 128 of them: none is above V

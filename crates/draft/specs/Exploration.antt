@@ -1,6 +1,7 @@
 -- Algorithm: exploring by square tables, front words and codes. A row has a code for each of its words: 255 for an A, and for a B the number of its node,
 -- with 64 more where its edge can land outside. Assumes nothing.
 use Prim.Native.Nat.{ℕ, zero, suc, _+_, _-_}
+use mathlib.Core.Path.{_≡_}
 use mathlib.Core.Bool.{Bool, false, not, cond}
 use mathlib.Core.List.{List, [], _∷_, _++_}
 use lib.Dec.{ltb}
@@ -76,6 +77,11 @@ pub record Explored : Type 0 where
 
 abbrev pub exploredAs : Drawing → List ℕ → Explored
 exploredAs d ends = record { drawn = d; ends = ends }
+
+-- the stores hold what is found and, unless exploring has ended before its time, where the codes of each node end
+pub record ExploredIn (nodes codes ends : List ℕ) (x : Extent) (e : Explored) : Type 0 where
+  pub drawingIs : drawingOf x nodes codes ≡ e .drawn
+  pub endsAre : x .stop ≡ stop.None → take (x .nodes) ends ≡ e .ends
 
 unfoldable pub goOnEnds : Stop → Explored → Explored → Explored
 goOnEnds stop.None ended next = next

@@ -1,4 +1,5 @@
 pub mod Answers
+pub mod Numbers
 pub mod Fronts
 pub mod Nodes
 pub mod Exploration

@@ -11,6 +11,8 @@ use Rattle.drafting.specs.Words.{whole, word}
 use Rattle.draft.specs.Nodes.{frontAt, Holds}
 use Rattle.draft.specs.Values.{beginOf}
 use Rattle.draft.specs.Asked.{ValuesFit, EndsFit}
+use Rattle.draft.specs.declared.nodes.Stop.the-variants as stop
+use Rattle.draft.specs.declared.explore.Extent.{Extent}
 
 -- the word of a code
 unfoldable pub rowWord : ℕ → ℕ
@@ -49,6 +51,10 @@ pub record Finishes (nodes codes ends : List ℕ) (count : ℕ) : Type 0 where
   pub holds : Holds nodes count
   pub fits : EndsFit codes ends
   pub rises : (n : ℕ) → n < count → beginOf ends n ≤ getD ends n 0
+
+-- so they are after exploring, unless it has ended before its time
+pub record FinishesAfter (nodes codes ends : List ℕ) (x : Extent) : Type 0 where
+  pub finishes : x .stop ≡ stop.None → Finishes nodes codes ends (x .nodes)
 
 -- with values
 pub record TextFits (nodes vs codes ends : List ℕ) (count : ℕ) : Type 0 where

@@ -1,6 +1,6 @@
 // The call that drafts a table for a model.
 ghost use mathlib.Core.Path.{_≡_};
-ghost use Prim.Native.Nat.{_≤_, _<_, min};
+ghost use Prim.Native.Nat.{ℕ, min};
 ghost use lib.ListN.{length};
 ghost use Rattle.model.specs.Reading.{modelAnswer};
 ghost use Rattle.model.specs.Index.{keep};
@@ -53,7 +53,7 @@ pub(crate) fn model_refused(answer: ModelAnswer) -> DraftAnswer
 
 // The refusal of exploring, handed on.
 pub(crate) fn stopped(stop: Stop) -> DraftAnswer
-    ensures { λ r. ⌜ HandsOn (stopAnswer stop 0) (draftAnswer r) ⌝ }
+    ensures { λ r. ⌜ HandsOn {A = ℕ} (stopAnswer stop 0) (draftAnswer r) ⌝ }
 {
     match stop {
         Stop::Nodes => DraftAnswer::TooManyNodes,

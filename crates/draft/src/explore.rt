@@ -1,18 +1,18 @@
 // Exploring forward: nodes in order of discovery, then by action and edge. What is found stands in stores that the caller lends.
 ghost use mathlib.Core.Path.{_≡_};
-ghost use Prim.Native.Nat.{_+_, _-_, _*_, _≤_, _<_};
+ghost use Prim.Native.Nat.{_+_, _-_, _≤_, _<_};
 ghost use mathlib.Core.List.{[]};
-ghost use lib.ListN.{getD, length, take};
+ghost use lib.ListN.{getD};
 ghost use Rattle.zone.specs.Squares.{Tightens, inside?};
 ghost use Rattle.model.specs.Fields.{landsAt};
 ghost use Rattle.model.specs.Index.{keep};
-ghost use Rattle.table.specs.Fields.{locationOf};
 ghost use Rattle.table.specs.Scan.{edgesAt};
 ghost use Rattle.draft.specs.Fronts.{Clocks};
-ghost use Rattle.draft.specs.Nodes.{frontAt, frontsOf, Holds};
-ghost use Rattle.draft.specs.Exploration.{drawingOf, exploredAs, codeOf, landedSquare, withSuccessor, successorsFrom, withRow, rowsFrom, withNode};
+ghost use Rattle.draft.specs.Nodes.{frontsOf, Holds};
+ghost use Rattle.draft.specs.Exploration.{drawingOf, ExploredIn, codeOf, landedSquare, withSuccessor, successorsFrom, withRow, rowsFrom, withNode};
 ghost use Rattle.draft.specs.Exploration.{nodesFrom, startDrawing};
-ghost use Rattle.draft.specs.Asked.{ActionAsked, ModelAsked, Located, Roomy, Grown};
+ghost use Rattle.draft.specs.Asked.{ActionAsked, ModelAsked, Located, Roomy, Grown, EndsFit};
+ghost use Rattle.draft.specs.Writing.{FinishesAfter};
 use crate::fronts;
 use crate::nodes;
 use crate::nodes::Stop;
@@ -211,9 +211,10 @@ pub(crate) fn explore(
     ends: &mut [usize],
     start: Extent,
 ) -> Extent
-    requires { ⌜ ModelAsked (keep index (now edges) (now zones)) × Located (index .locations) (frontsOf (now nodes) (start .nodes)) × Holds (now nodes) (start .nodes) × (start .codes ≡ 0) × (8192 ≤ length (now codes)) × (64 ≤ length (now ends)) ⌝ }
-    ensures finds { λ r. ⌜ exploredAs (drawingOf r (now (nodes .exit)) (now (codes .exit))) (take (r .nodes) (now (ends .exit))) ≡ nodesFrom (keep index (now (edges .entry)) (now (zones .entry))) 64 0 [] (drawingOf start (now (nodes .entry)) (now (codes .entry))) ⌝ }
-    ensures holds { λ r. ⌜ Holds (now (nodes .exit)) (r .nodes) × (r .codes ≤ 8192) ⌝ }
+    requires { ⌜ ModelAsked (keep index (now edges) (now zones)) × Located (index .locations) (frontsOf (now nodes) (start .nodes)) × Holds (now nodes) (start .nodes) × (start .codes ≡ 0) × EndsFit (now codes) (now ends) ⌝ }
+    ensures finds { λ r. ⌜ ExploredIn (now (nodes .exit)) (now (codes .exit)) (now (ends .exit)) r (nodesFrom (keep index (now (edges .entry)) (now (zones .entry))) 64 0 [] (drawingOf start (now (nodes .entry)) (now (codes .entry)))) ⌝ }
+    ensures holds { λ r. ⌜ Holds (now (nodes .exit)) (r .nodes) × Located (index .locations) (frontsOf (now (nodes .exit)) (r .nodes)) × (r .codes ≤ 8192) ⌝ }
+    ensures finishes { λ r. ⌜ FinishesAfter (now (nodes .exit)) (now (codes .exit)) (now (ends .exit)) r ⌝ }
 {
     let mut found = start;
     for n in 0..64 {

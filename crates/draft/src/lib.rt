@@ -5,3 +5,4 @@ mod explore; // explore.rt: nodes in order of discovery, then by action and edge
 mod rounds; // rounds.rt: the values, round by round
 mod write; // write.rt: the draft put into the lent words
 pub mod call; // call.rt: the call that drafts a table
+pub mod numbers; // numbers.rt: an answer in the documents' numbers

@@ -120,15 +120,15 @@ pub(crate) fn round(
     ensures { λ r. ⌜ (r .list ≡ roundBelow index (now (edges .entry)) (now (nodes .entry)) (now (codes .entry)) (now (ends .entry)) count (values .list)) × ValuesFit (r .list) ⌝ }
 {
     let old = values.list;
-    let mut next = values;
+    let mut list = values.list;
     for n in 0..count {
         let l = nodes::location_at(nodes, n) as usize;
         if !index.targets[l] {
             let at = begin_of(ends, n);
-            next.list[n] = largest(index, edges, zones, codes, &old, l, at);
+            list[n] = largest(index, edges, zones, codes, &old, l, at);
         }
     }
-    next
+    Values { list }
 }
 
 // The values after so many rounds; every one begins at V.

@@ -81,7 +81,7 @@ grown-ready g = record { few = g .few; all = g .all }
 grown-same : {M : Model} {found : List Found} → Ready M found → Grown M found found
 grown-same {found = found} r = record { more = []; grown = sym (append-nil found); few = r .few; all = r .all }
 
-grown-trans : {M : Model} {a b c : List Found} → Grown M a b → Grown M b c → Grown M a c
+pub grown-trans : {M : Model} {a b c : List Found} → Grown M a b → Grown M b c → Grown M a c
 grown-trans {a = a} f g = record {
   more = f .more ++ g .more;
   grown = g .grown ∙ ap (λ (xs : List Found). xs ++ g .more) (f .grown) ∙ append-assoc a (f .more) (g .more);
@@ -90,7 +90,7 @@ grown-trans {a = a} f g = record {
 }
 
 -- the nodes found before stay
-grown-length : {M : Model} {found later : List Found} → Grown M found later → length found ≤ length later
+pub grown-length : {M : Model} {found later : List Found} → Grown M found later → length found ≤ length later
 grown-length {found = found} g = rw (g .grown, length-append found (g .more)) (N.le-add-right (length found) (length (g .more)))
 
 pub grown-at : {M : Model} {found later : List Found} → Grown M found later → (n : ℕ) → n < length found → getD later n noFound ≡ getD found n noFound

@@ -90,20 +90,20 @@ module _ (words : List ℕ) (r : ModelRead) (es : List ℕ) (zs : List ℤ) (m :
   abbrev kept : ModelKept
   kept = keep (r .index) es zs
 
-  accepts : ReadModel words (accepted (m .counts))
+  pub accepts : ReadModel words (accepted (m .counts))
   unfolding modelAnswer
   accepts = subst (λ a. ReadModel words (modelAnswer a)) (m .accepts) (m .reads)
 
-  keeps : KeptFor words r es zs
+  pub keeps : KeptFor words r es zs
   keeps = m .index .accepted (m .counts) (m .accepts)
 
   x : Indexed M kept
   x = keeps .indexed
 
-  good : GoodModel M
+  pub good : GoodModel M
   good = accepted-good words (m .counts) accepts
 
-  formed : WellFormed M
+  pub formed : WellFormed M
   formed = accepted-formed words (m .counts) accepts
 
   model-holds : AllHold (modelChecks words)

@@ -15,7 +15,7 @@ use Rattle.zone.proofs.Bools.{both, and}
 use Rattle.zone.proofs.Sizes.{small-met, small-delayed, small-reset, tightens-less, tightens-fewer}
 use Rattle.zone.proofs.SquareTables.{met-assoc}
 use Rattle.zone.proofs.Regions.{Stands, inBoth, stands-met}
-use Rattle.zone.proofs.Spans.{Spans, spans-same, spans-met, spans-tightened, tightened-good, tight, Beyond, empty-yes, empty-no, inside-yes, beyond}
+use Rattle.zone.proofs.Spans.{Spans, spans-same, spans-met, spans-tightened, tightened-good, Tight, tight, Beyond, empty-yes, empty-no, inside-yes, beyond}
 use Rattle.zone.proofs.Attained.{Attained, between, spans-attained, spans-reset, tight-reset}
 use Rattle.model.specs.Scan.{guardsAt}
 use Rattle.model.specs.Model.{Action, Model}
@@ -172,25 +172,30 @@ module _ {M : Model} {m : Kept} (x : Indexed M m) (good : GoodModel M) (N : Node
 
   -- ---- where an edge with this mask lands, if the reach is not empty
   module _ (filled : empty? rowReach ≡ false) (mask : ℕ) where
-    landings-span : Spans (ResetOf mask (Reach M N A)) (resetSquare mask rowReach)
+    pub landings-span : Spans (ResetOf mask (Reach M N A)) (resetSquare mask rowReach)
     unfolding common
     landings-span = spans-reset mask rowReach (tightened-good fits row-spans filled) (spans-tightened fits row-spans)
+
+    pub landings-tight : Tight (resetSquare mask rowReach)
+    unfolding common
+    landings-tight = tight-reset mask rowReach (tight fits row-spans filled)
 
     module _ (S : Zone) (s : GoodZone S) where
       onward-yes : inside? (resetSquare mask rowReach) (withBounds S universe) ≡ true → Inside (ResetOf mask (Reach M N A)) (within S)
       onward-yes = inside-yes landings-span (stands-bounds S s)
 
       onward-no : inside? (resetSquare mask rowReach) (withBounds S universe) ≡ false → Beyond (ResetOf mask (Reach M N A)) (within S)
-      unfolding common
-      onward-no = beyond landings-span (stands-bounds S s) (tight-reset mask rowReach (tight fits row-spans filled))
+      onward-no = beyond landings-span (stands-bounds S s) landings-tight
 
       -- those that the zone S holds
+      pub part-fits : Tightens 1 (met (resetSquare mask rowReach) (withBounds S universe))
+      unfolding common
+      part-fits =
+          small-met _ (small-reset _ (tightens-less 1 _ (omega arith) row-fits) mask) _ (tightens-fewer 1 3 _ (omega arith) (tightens-bounds S s))
+
       part-decides : Decides (inBoth (ResetOf mask (Reach M N A)) (within S)) (common (resetSquare mask rowReach) (withBounds S universe))
       unfolding common
-      part-decides =
-          table-decides
-          (small-met _ (small-reset _ (tightens-less 1 _ (omega arith) row-fits) mask) _ (tightens-fewer 1 3 _ (omega arith) (tightens-bounds S s)))
-          (spans-met landings-span (stands-bounds S s))
+      part-decides = table-decides part-fits (spans-met landings-span (stands-bounds S s))
 
   -- the table decides
   pub reached : Reached M N A rowReach

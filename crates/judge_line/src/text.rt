@@ -48,7 +48,7 @@ impl Line {
 }
 
 // `REFUSED number place` and a line feed.
-pub(crate) fn refused_line(number: u32, place: usize) -> Line
+pub fn refused_line(number: u32, place: usize) -> Line
     ensures { λ r. ⌜ (shown r ≡ lineOf (refused number place)) × (r .count ≤ 72) ⌝ }
 {
     Line::NOTHING

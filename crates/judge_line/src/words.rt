@@ -22,7 +22,7 @@ pub(crate) fn word_at(bytes: &[u8], at: usize) -> u32
 }
 
 // Puts the words of the bytes into the first cells of a slice.
-pub(crate) fn to_words(bytes: &[u8], words: &mut [u32])
+pub fn to_words(bytes: &[u8], words: &mut [u32])
     requires { ⌜ length (now bytes) / 4 ≤ length (now words) ⌝ }
     ensures { λ _. ⌜ take (length (now (bytes .entry)) / 4) (now (words .exit)) ≡ wordsOf (now (bytes .entry)) ⌝ }
 {

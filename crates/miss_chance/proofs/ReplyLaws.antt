@@ -7,7 +7,7 @@ use native.Mathlib.Omega.{arith}
 use mir.Val.{boolByte}
 use lib.ListN.{length, drop, set}
 use Rattle.zone.specs.Checks.{Answer}
-use Rattle.miss_chance.specs.Replies.{answerWords, yesWords, Replies}
+use Rattle.miss_chance.specs.Replies.{answerWords, yesWords, lengthWords, Replies, Drafting, RepliesDraft}
 use Rattle.miss_chance.specs.Held.{replyWords}
 use Rattle.miss_chance.specs.declared.replies.Reply.{Reply}
 
@@ -37,4 +37,17 @@ module _ {A : Type 0} (Says : Answer A → Type 0) (values : A → List ℕ) (be
   written r a h s e f = record {
     short = λ k. absurd (omega arith);
     long = λ _. (refl, record { answer = a; says = s; writes = f ∙ ap (λ ws. ws ++ drop 4 before) e });
+  }
+
+-- ---- what the call that drafts a table replies
+
+module _ (model : List ℕ) (rounds : ℕ) (lent before : List ℕ) where
+  pub draft-not-written : length before < 4 → RepliesDraft model rounds lent lent before before false
+  draft-not-written h = record { replies = not-written (Drafting model rounds lent lent) lengthWords before h; untouched = λ _. refl }
+
+  pub draft-written : {table after : List ℕ} (r : Reply) (a : Answer ℕ) → 4 ≤ length before → Drafting model rounds lent table a →
+      replyWords r ≡ answerWords lengthWords a → after ≡ replyWords r ++ drop 4 before → RepliesDraft model rounds lent table before after true
+  draft-written {table} r a h s e f = record {
+    replies = written (Drafting model rounds lent table) lengthWords before r a h s e f;
+    untouched = λ k. absurd (omega arith);
   }

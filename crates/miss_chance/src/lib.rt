@@ -1,19 +1,20 @@
-// The six calls for C and Rust. A slice passes as a pointer and then a length. Each of document 01's four writes its answer to the first four words of a
-// slice that the caller lends, and returns true; where the slice has fewer than four it writes nothing and returns false. The two of the board, document 02,
-// card 3, hand structs over and back by value; they are the board's calls from Rattle too.
+// The seven calls for C and Rust. A slice passes as a pointer and then a length. Each of document 01's four, and the draft of document 02, card 5, writes its
+// answer to the first four words of a slice that the caller lends, and returns true; where the slice has fewer than four it writes nothing and returns false.
+// The two of the board, card 3, hand structs over and back by value; they are the board's calls from Rattle too.
 mod replies; // replies.rt: each answer as four words
 
 ghost use Rattle.zone.specs.Questions.{AskedEmpty, AskedInside};
 ghost use Rattle.model.specs.Reading.{ReadModel};
 ghost use Rattle.board.specs.Board.{board};
 ghost use Rattle.board.specs.Replies.{submission, Submits, Ranks};
-ghost use Rattle.miss_chance.specs.Replies.{Replies, Verdicts, certificateWords, countsWords, yesWords};
+ghost use Rattle.miss_chance.specs.Replies.{Replies, Verdicts, RepliesDraft, certificateWords, countsWords, yesWords};
 use board::ranking;
 use board::ranking::Ranking;
 use board::submissions;
 use board::submissions::Ledger;
 use board::submissions::Request;
 use board::submissions::Submitted;
+use draft::call;
 use judge::verdict;
 use model::read;
 use slots::Slot;
@@ -28,6 +29,23 @@ pub extern "C" fn miss_chance_judge(model: &[u32], table: &[u32], answer: &mut [
         return false;
     }
     replies::put(replies::of_verdict(verdict::judge(model, table)), answer);
+    true
+}
+
+// Drafts a table for a model into the words lent for it, with values after so many rounds. A refusal leaves them as they are.
+#[no_mangle]
+pub extern "C" fn miss_chance_draft(
+    model: &[u32],
+    rounds: u64,
+    table: &mut [u32],
+    answer: &mut [u64],
+) -> bool
+    ensures { λ r. ⌜ RepliesDraft (now (model .entry)) rounds (now (table .entry)) (now (table .exit)) (now (answer .entry)) (now (answer .exit)) r ⌝ }
+{
+    if answer.len() < 4 {
+        return false;
+    }
+    replies::put(replies::of_draft(call::draft(model, rounds, table)), answer);
     true
 }
 

@@ -6,8 +6,11 @@ ghost use lib.ListN.{length, drop};
 ghost use Rattle.zone.specs.Questions.{emptinessAnswer, inclusionAnswer};
 ghost use Rattle.model.specs.Reading.{modelAnswer};
 ghost use Rattle.judge.specs.Verdicts.{verdictAnswer};
-ghost use Rattle.miss_chance.specs.Replies.{answerWords, certificateWords, countsWords, yesWords};
+ghost use Rattle.draft.specs.Answers.{draftAnswer};
+ghost use Rattle.miss_chance.specs.Replies.{answerWords, certificateWords, countsWords, yesWords, lengthWords};
 ghost use Rattle.miss_chance.specs.Held.{replyWords, refusalReply};
+use draft::call::DraftAnswer;
+use draft::numbers as drafts;
 use judge::numbers;
 use judge::verdict::Verdict;
 use model::read::ModelAnswer;
@@ -59,6 +62,22 @@ pub(crate) fn of_verdict(verdict: Verdict) -> Reply
         first: told.certificate.b as u64,
         second: told.certificate.whole as u64,
         third: told.certificate.nodes as u64,
+    }
+}
+
+// The reply to drafting a table.
+pub(crate) fn of_draft(answer: DraftAnswer) -> Reply
+    ensures { λ r. ⌜ replyWords r ≡ answerWords lengthWords (draftAnswer answer) ⌝ }
+{
+    let told = drafts::in_numbers(answer);
+    if told.number != 0 {
+        return refusal(told.number as u64, told.place);
+    }
+    Reply {
+        number: 0,
+        first: told.length as u64,
+        second: 0,
+        third: 0,
     }
 }
 

@@ -13,7 +13,7 @@ use mir.Facts.{toZ-ofZ, toZ-pos}
 use Rattle.zone.specs.Keys.{lowest}
 use Rattle.zone.specs.Cells.{tighterOf, sumKey, sum, negated}
 use Rattle.zone.specs.declared.bounds.Bound.{Bound as Cell}
-use Rattle.zone.proofs.Bools.{by-test}
+use Rattle.zone.proofs.Bools.{by-test, same-test}
 use Rattle.zone.proofs.Integers.{up, dn, ltZ→, →ltZ, parts-add, up-neg, dn-neg}
 use Rattle.zone.proofs.Machine.{mag-add, mag-neg, back32, back64}
 
@@ -81,14 +81,8 @@ is-tighterOf t a b h k e =
 
 -- ---- the test: the difference is negative
 pub is-below : (a b g : ℤ) → g ≡ a -ℤ b → mag g < 2 ^ 63 → ltZ (toZ w64 (ofZ w64 g)) (pos 0) ≡ ltZ a b
-is-below a b g e h = rw (back64 g h, e) (by (ltZ (a -ℤ b) (pos 0)) (ltZ a b) there back)
+is-below a b g e h = rw (back64 g h, e) (same-test (ltZ (a -ℤ b) (pos 0)) (ltZ a b) there back)
   where
-    by : (s t : Bool) → (T s → T t) → (T t → T s) → s ≡ t
-    by true true f g = refl
-    by true false f g = absurd (f tt)
-    by false true f g = absurd (g tt)
-    by false false f g = refl
-
     parts : up (a -ℤ b) + dn a + up b ≡ dn (a -ℤ b) + up a + dn b
     parts = omega (arith, parts-add a (negℤ b), up-neg b, dn-neg b)
 

@@ -217,7 +217,7 @@ record Key (d : ℤ) (s : Bool) (key : ℤ) : Type 0 where
   bit : lowest key ≡ loose s
 
 -- integers with the same difference of parts are the same
-same-parts : (a b : ℤ) → up a + dn b ≡ up b + dn a → a ≡ b
+pub same-parts : (a b : ℤ) → up a + dn b ≡ up b + dn a → a ≡ b
 same-parts (pos a) (pos b) e = ap pos (omega arith)
 same-parts (pos a) (negsuc b) e = absurd (omega arith)
 same-parts (negsuc a) (pos b) e = absurd (omega arith)
@@ -227,7 +227,7 @@ pub loose-small : (s : Bool) → loose s < 2
 loose-small true = omega arith
 loose-small false = omega arith
 
-parts-key : (d : ℤ) (s : Bool) → up (keyOf d s) + 2 * dn d ≡ dn (keyOf d s) + 2 * up d + loose s
+pub parts-key : (d : ℤ) (s : Bool) → up (keyOf d s) + 2 * dn d ≡ dn (keyOf d s) + 2 * up d + loose s
 parts-key d s = omega (arith, parts-add (d +ℤ d) (pos (loose s)), parts-add d d)
 
 key-of : (d : ℤ) (s : Bool) → Key d s (keyOf d s)
@@ -236,7 +236,7 @@ key-of d s = record {
   bit = omega (arith, parts-key d s, loose-small s, halved (keyOf d s));
 }
 
-loose-even : (n : ℕ) → n < 2 → n ≡ loose (eqb n 0)
+pub loose-even : (n : ℕ) → n < 2 → n ≡ loose (eqb n 0)
 loose-even zero h = refl
 loose-even (suc zero) h = refl
 loose-even (suc (suc n)) h = absurd (omega arith)
@@ -347,7 +347,7 @@ said-key d s h i j = rw (key-finite d s h .test, key-of d s .halves, key-of d s 
 key-said : (z : ℤ) → Key (half z) (eqb (lowest z) 0) z
 key-said z = record { halves = refl; bit = loose-even (lowest z) (halved z .small) }
 
-said-holds : (a : Cell) (i j k : ℕ) (v : Valuation) → within (saidOf a i j) k v ↔ bounds .Holds k (read v i) (read v j) (limitOf a)
+pub said-holds : (a : Cell) (i j k : ℕ) (v : Valuation) → within (saidOf a i j) k v ↔ bounds .Holds k (read v i) (read v j) (limitOf a)
 unfolding saidOf within in? holds? limitOf
 said-holds a i j k v = by (finite? a)
   where

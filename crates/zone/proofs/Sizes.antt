@@ -148,9 +148,13 @@ tightens-readFrom C (w ∷ ws) p z s =
     by true r = r refl
     by false r = s
 
-pub tightens-read : (C : ℕ) (ws : List ℕ) → Tightens 1 (readZone C ws .zone)
+-- a zone that is read can be tightened three times, whatever its words
+pub read-tightens : (C : ℕ) (ws : List ℕ) → Tightens 3 (readZone C ws .zone)
 unfolding readZone
-tightens-read C ws = tightens-fewer 1 3 _ (omega arith) (tightens-readFrom C ws 0 universe tightens-universe)
+read-tightens C ws = tightens-readFrom C ws 0 universe tightens-universe
+
+pub tightens-read : (C : ℕ) (ws : List ℕ) → Tightens 1 (readZone C ws .zone)
+tightens-read C ws = tightens-fewer 1 3 _ (omega arith) (read-tightens C ws)
 
 -- what is read can be tightened
 pub read-fits : (C : ℕ) (ws : List ℕ) (r : ZoneRead) → r ≡ readZone C ws → Tightens 1 (r .zone)

@@ -149,6 +149,25 @@ pub record Beyond (R S : Region) : Type 0 where
   pub holds : R scale valuation
   pub fails : S scale valuation → ⊥
 
+-- where a valuation of the table is not within a bound, one of the region is not
+pub breached : {R : Region} {y : Square} → Spans R y → {i j : ℕ} → i < 5 → j < 5 → {b : Limit} → Breach bounds 5 (tableOf y) i j b →
+    Beyond R (λ k v. bounds .Holds k (read v i) (read v j) b)
+unfolding inSquare
+breached {R} {y} s {i} {j} hi hj {b} p = record {
+  scale = m .factor * p .k;
+  positive = N.one-le-mul (m .factor₁) (p .k₁);
+  valuation = m .valuation;
+  holds = m .holds;
+  fails = λ q. p .fails (bounds .divide (m .factor) (m .factor₁) (p .k) (p .v i) (p .v j) b
+      (subst₂ (λ x x′. bounds .Holds (m .factor * p .k) x x′ b) (reads i hi) (reads j hj) q));
+}
+  where
+    m : Multiple R (p .k) (p .v)
+    m = s .out (p .k) (p .k₁) (p .v) (rw (read-same (p .v) (p .v₀)) (p .holds))
+
+    reads : (a : ℕ) → a < 5 → read (m .valuation) a ≡ m .factor * p .v a
+    reads a h = m .reads a h ∙ ap (λ (w : Valuation). m .factor * w a) (read-same (p .v) (p .v₀))
+
 module _ {R S : Region} {y z : Square} (s : Spans R y) (t : Stands S z) where
   pub inside-yes : inside? y z ≡ true → Inside R S
   unfolding inSquare
@@ -156,27 +175,16 @@ module _ {R S : Region} {y z : Square} (s : Spans R y) (t : Stands S z) where
 
   pub beyond : Tight y → inside? y z ≡ false → Beyond R S
   unfolding inSquare
-  beyond all e = record {
-    scale = m .factor * p .k;
-    positive = N.one-le-mul (m .factor₁) (p .k₁);
-    valuation = m .valuation;
-    holds = m .holds;
-    fails = λ q. p .fails (bounds .divide (m .factor) (m .factor₁) (p .k) (p .v (c .i)) (p .v (c .j)) (tableOf z (c .i) (c .j))
-        (subst₂ (λ x x′. bounds .Holds (m .factor * p .k) x x′ (tableOf z (c .i) (c .j))) (reads (c .i) (c .hi)) (reads (c .j) (c .hj))
-        (t .into (m .factor * p .k) (N.one-le-mul (m .factor₁) (p .k₁)) (m .valuation) q .at (c .i) (c .j) (c .hi) (c .hj))));
-  }
-    where
-      c : Loose y z
-      c = loose-cell y z e
-
-      p : Breach bounds 5 (tableOf y) (c .i) (c .j) (tableOf z (c .i) (c .j))
-      p = all (c .i) (c .j) (c .hi) (c .hj) (tableOf z (c .i) (c .j)) (c .looser)
-
-      m : Multiple R (p .k) (p .v)
-      m = s .out (p .k) (p .k₁) (p .v) (rw (read-same (p .v) (p .v₀)) (p .holds))
-
-      reads : (i : ℕ) → i < 5 → read (m .valuation) i ≡ m .factor * p .v i
-      reads i h = m .reads i h ∙ ap (λ (w : Valuation). m .factor * w i) (read-same (p .v) (p .v₀))
+  beyond all e =
+      let c : Loose y z = loose-cell y z e in
+      let p = breached s (c .hi) (c .hj) (all (c .i) (c .j) (c .hi) (c .hj) (tableOf z (c .i) (c .j)) (c .looser)) in
+      record {
+        scale = p .scale;
+        positive = p .positive;
+        valuation = p .valuation;
+        holds = p .holds;
+        fails = λ q. p .fails (t .into (p .scale) (p .positive) (p .valuation) q .at (c .i) (c .j) (c .hi) (c .hj));
+      }
 
   pub inside-no : Tight y → inside? y z ≡ false → Inside R S → ⊥
   inside-no all e m = let p = beyond all e in p .fails (m .at (p .scale) (p .positive) (p .valuation) (p .holds))

@@ -7,8 +7,8 @@ use mathlib.Core.List.{List}
 use lib.ListN.{length, take, drop, length-take, length-drop}
 use lib.Seq.{length-take-le}
 use borrow.Rule.Slice.PartMut.{putMid}
-use Rattle.judge_cli.proofs.read_input.Statement.{statement}
-use Rattle.judge_cli.proofs.read_input.Tie as tie
+use Rattle.input.proofs.read_input.Statement.{statement}
+use Rattle.input.proofs.read_input.Tie as tie
 
 abbrev Inv-loop : tie.InvT-loop
 Inv-loop bytes₀ count₀ bytes count = (count ≤ length bytes) × (length bytes ≡ length bytes₀)

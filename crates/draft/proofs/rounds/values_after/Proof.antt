@@ -1,0 +1,30 @@
+-- Proof of `values_after`: the rounds that are left lead from here to where all lead from V.
+use Prim.Native.Nat.{_-_}
+use borrow.Author.Needs.{needs}
+use Rattle.draft.proofs.RoundCode.{RoundsTo, rounds-begin, rounds-next, rounds-end}
+use Rattle.draft.proofs.rounds.values_after.Statement.{statement}
+use Rattle.draft.proofs.rounds.values_after.Tie as tie
+
+abbrev Inv-loop : tie.InvT-loop
+Inv-loop index edges zones nodes codes ends count rounds values₀ n₀ values n = RoundsTo index edges nodes codes ends count rounds (values .list) n
+
+abbrev μ-loop : tie.MeasureT-loop
+μ-loop index edges zones nodes codes ends count rounds values₀ n₀ values n = rounds - n
+
+round-requires : tie.Need-round-requires Inv-loop μ-loop
+round-requires c κs =
+    let pre = c .before .before .before .before .before .before .pre in
+    (pre .0, pre .1, pre .2, pre .3, c .before .loop .inv .fits)
+
+loop-again : tie.Need-loop-again Inv-loop μ-loop
+loop-again c =
+    let t = c .before in
+    rounds-next _ _ _ _ _ (t .before .loop .inv) (t .loop-test .taken) _ (c .round .ensures .0) (c .round .ensures .1)
+
+returns : tie.Need-returns Inv-loop μ-loop
+returns c = rounds-end _ _ _ _ _ (c .before .loop .inv) (c .loop-test .left)
+
+pub values-after-spec : {M : Type 1} → statement M
+values-after-spec =
+    tie.close
+    (tie.spec Inv-loop μ-loop (λ c. rounds-begin _ _ _ _ _ _ _) round-requires (λ c. search needs) (λ c. search needs) loop-again returns)
