@@ -3,6 +3,7 @@
 use std::collections::BTreeMap;
 use std::fmt::{self, Debug};
 
+use crate::drafting::{self, DraftTally};
 use crate::flawed::{flawed_judge, Flaw};
 use crate::histories::{self, Asks, Board, BoardTally, Submission};
 use crate::reading::{words, Certificate, Counts, Refusal, Slot};
@@ -54,6 +55,7 @@ pub struct Tally {
     /// Judged tables whose answer card 4 changed, by the answer before it and the answer now.
     pub changed: BTreeMap<(Answer, Answer), usize>,
     pub boards: BoardTally,
+    pub drafts: DraftTally,
     /// By side: answers that were the reading's.
     pub agreed: BTreeMap<&'static str, usize>,
 }
@@ -250,6 +252,29 @@ impl Asks for Comparer<'_> {
             self.tally.boards.rank(slots, order);
         }
         Ok(same)
+    }
+}
+
+/// Drafts are compared word for word, with all the words that were lent.
+impl drafting::Asks for Comparer<'_> {
+    fn draft(&mut self, model: &[u32], rounds: u64, words: usize) -> Same<Vec<u32>> {
+        let ask = |side: &dyn Side| drafting::drafted(side, model, rounds, words);
+        let input = || {
+            let model = written(&[("model", model)]);
+            format!("{rounds} rounds, {words} words lent\n{model}")
+        };
+        let same = self.same("draft", ask, input)?;
+        self.count("draft", &same.answer, |_| Answer::Accepted);
+        let told = |what| Fault(format!("{what}\n{}", input()));
+        same.table().map_err(told)
+    }
+
+    fn judge(&mut self, model: &[u32], table: &[u32]) -> Same<Certificate> {
+        Comparer::judge(self, model, table)
+    }
+
+    fn read_model(&mut self, model: &[u32]) -> Same<Counts> {
+        Comparer::read_model(self, model)
     }
 }
 

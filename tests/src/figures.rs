@@ -6,16 +6,25 @@ use std::path::PathBuf;
 use std::time::{Duration, Instant};
 
 use crate::kept::{self, Kept};
-use crate::shapes::{Input, Shape};
+use crate::shapes::{Answer, Input, Shape};
 use crate::sides::{Plain, Reading, Side, UnderTest};
 
 /// The sides, in the order of the columns.
 pub const SIDES: [&str; 3] = ["judge", "reading", "plain"];
 
-/// A side that is measured, and the board that it keeps.
+/// A side that is measured, the board that it keeps and the words that it lends.
 pub struct Measured {
     side: Box<dyn Side>,
     board: Box<dyn Kept>,
+    lent: Vec<u32>,
+}
+
+impl Measured {
+    /// One call. Inlined, since what stands around a call is counted with it.
+    #[inline]
+    fn ask(&mut self, input: &Input) -> Answer {
+        input.ask(&*self.side, &mut *self.board, &mut self.lent)
+    }
 }
 
 /// A side by its name, its board with the slots of this input.
@@ -29,7 +38,8 @@ pub fn side(name: &str, input: &Input) -> Option<Measured> {
         _ => return None,
     };
     let board = kept::board(name, &input.slots())?;
-    Some(Measured { side, board })
+    let lent = input.lent();
+    Some(Measured { side, board, lent })
 }
 
 /// All sides, in the order of `SIDES`.
@@ -71,14 +81,15 @@ impl Time {
     }
 }
 
-/// All sides must accept, with the same answer and the same rank of their boards after it.
+/// All sides must accept, with the same answer, the same rank of their boards after it and the same lent
+/// words.
 fn agree(shape: &Shape, input: &Input, sides: &mut [Measured]) {
     let answers: Vec<_> = sides
         .iter_mut()
-        .map(|Measured { side, board }| (input.ask(&**side, &mut **board), board.ranking()))
+        .map(|side| (side.ask(input), side.board.ranking(), &side.lent))
         .collect();
     let same = answers.iter().all(|answer| *answer == answers[0]);
-    let (answer, ranking) = &answers[0];
+    let (answer, ranking, _) = &answers[0];
     assert!(
         same && !answer.is_refusal() && ranking.is_ok(),
         "{}: {answers:?}",
@@ -104,10 +115,8 @@ fn time(input: &Input, side: &mut Measured, calls: u32) -> Duration {
 
 /// So many calls.
 pub fn repeat(input: &Input, measured: &mut Measured, calls: u32) {
-    let Measured { side, board } = measured;
-    let (side, board) = (&**side, &mut **board);
     for _ in 0..calls {
-        black_box(input.ask(side, board));
+        black_box(measured.ask(input));
     }
 }
 
@@ -147,8 +156,7 @@ mod tests {
             let input = Shape::Submit { held }.input();
             for mut measured in sides(&input) {
                 repeat(&input, &mut measured, 101);
-                let Measured { side, board } = &mut measured;
-                let answer = input.ask(&**side, &mut **board);
+                let answer = measured.ask(&input);
                 assert!(!answer.is_refusal(), "{answer:?}");
             }
         }

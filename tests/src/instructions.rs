@@ -30,7 +30,7 @@ pub struct Counts {
 /// besides, and what first calls need, is in the run with fewer calls as well, and falls out. A rank
 /// has no words, and as many calls as if it had one for each slot.
 pub fn per_call(line: usize, side: &str, input: &Input) -> Result<Counts, Fault> {
-    let calls = 1 + 20_000 / input.words().max(SLOTS) as u64;
+    let calls = 1 + 20_000 / input.work().max(SLOTS as u64);
     let fewer = of_run(line, side, calls)?;
     let more = of_run(line, side, 2 * calls)?;
     Ok(Counts {

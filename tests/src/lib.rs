@@ -4,17 +4,19 @@
 //! plain judge written for speed. `plan` draws inputs (`models`, `explore`, `cuts`, `landings`, `edits`,
 //! `mutate`, `garbage`, `boundaries`, `questions`, `program_inputs`) and has the judge under test, the
 //! reading and the plain judge answer them (`comparer`). `histories` does the same with boards of
-//! slots, after every submission of a history, and holds the boards against the law of card 3. `cases`
-//! holds all of them against the stored answers under `tests/cases`. `evidence` holds answers against
-//! valuations that are tried one by one (`points`, `player`, `witness`, `sums`). `self_check` shows
-//! that the tests can fail, with judges, boards and players that are wrong on purpose (`wrong`,
-//! `flawed`, `flawed_board`, `player`). `figures` says how long a call takes on each side, `instructions` how many
-//! instructions it needs, on the inputs of `shapes` and the boards of `kept`.
+//! slots, after every submission of a history, and holds the boards against the law of card 3;
+//! `drafting` with drafts of tables, word for word, and holds them against card 5. `cases` holds all of
+//! them against the stored answers under `tests/cases`. `evidence` holds answers against valuations
+//! that are tried one by one (`points`, `player`, `witness`, `sums`). `self_check` shows that the tests
+//! can fail, with judges, boards, drafts and players that are wrong on purpose (`wrong`, `flawed`,
+//! `flawed_board`, `flawed_draft`, `player`). `figures` says how long a call takes on each side,
+//! `instructions` how many instructions it needs, on the inputs of `shapes` and the boards of `kept`.
 
 pub mod boundaries;
 pub mod cases;
 pub mod comparer;
 pub mod cuts;
+pub mod drafting;
 pub mod drafts;
 pub mod edits;
 pub mod evidence;
@@ -22,6 +24,7 @@ pub mod explore;
 pub mod figures;
 pub mod flawed;
 pub mod flawed_board;
+pub mod flawed_draft;
 pub mod garbage;
 pub mod histories;
 pub mod instructions;

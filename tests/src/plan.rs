@@ -3,6 +3,7 @@
 use crate::boundaries::{self, Pair};
 use crate::comparer::{Comparer, Fault};
 use crate::cuts::spoil_cut;
+use crate::drafting;
 use crate::drafts::Draft;
 use crate::edits::{loosen, reroute, tighten};
 use crate::evidence::Evidence;
@@ -34,6 +35,8 @@ pub struct Work {
     pub programs: usize,
     /// Boards of slots, besides the directed ones.
     pub boards: histories::Counts,
+    /// Models for which tables are drafted.
+    pub drafts: drafting::Counts,
 }
 
 impl Work {
@@ -49,9 +52,13 @@ impl Work {
             histories: 3000,
             handed_in: 30_000,
         },
+        drafts: drafting::Counts {
+            models: 6000,
+            played: 1000,
+        },
     };
 
-    /// Enough to catch every wrong judge and board of `wrong`.
+    /// Enough to catch every wrong judge, board and draft of `wrong`.
     pub const SHORT: Work = Work {
         models: 400,
         played: 0,
@@ -63,6 +70,10 @@ impl Work {
             histories: 100,
             handed_in: 1000,
         },
+        drafts: drafting::Counts {
+            models: 800,
+            played: 0,
+        },
     };
 }
 
@@ -70,8 +81,9 @@ pub struct Run<'a> {
     pub comparer: Comparer<'a>,
     pub evidence: Evidence,
     random: Random,
-    /// What boards are drawn with.
+    /// What boards are drawn with, and drafts.
     random_boards: Random,
+    random_drafts: Random,
 }
 
 impl<'a> Run<'a> {
@@ -81,6 +93,7 @@ impl<'a> Run<'a> {
             evidence: Evidence::default(),
             random: Random::new(seed),
             random_boards: Random::new(seed + 1),
+            random_drafts: Random::new(seed + 2),
         }
     }
 
@@ -110,7 +123,8 @@ impl<'a> Run<'a> {
             self.garbage()?;
         }
         self.program_runs(work.programs)?;
-        self.boards(work)
+        self.boards(work)?;
+        self.drafts(work)
     }
 
     /// Histories of submissions, and boards that are handed in.
@@ -118,7 +132,13 @@ impl<'a> Run<'a> {
         histories::compare(&mut self.comparer, &mut self.random_boards, work.boards)
     }
 
-    /// Document 01's own cases, and those of cards 1 and 4.
+    /// Drafts of tables, each judged; those of small models are played.
+    pub fn drafts(&mut self, work: &Work) -> Result<(), Fault> {
+        let random = &mut self.random_drafts;
+        drafting::compare(&mut self.comparer, &mut self.evidence, random, work.drafts)
+    }
+
+    /// Document 01's own cases, and those of cards 1, 4 and 5.
     fn worked_cases(&mut self) -> Result<(), Fault> {
         worked::check(self.comparer.under_test)?;
         worked::check(self.comparer.plain)?;

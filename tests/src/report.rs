@@ -4,10 +4,11 @@ use std::collections::BTreeMap;
 use std::fmt::{Display, Write};
 
 use crate::comparer::{Answer, Tally, PLAIN, UNDER_TEST};
+use crate::drafting::DraftTally;
 use crate::evidence::Evidence;
 use crate::histories::BoardTally;
 
-const CALLS: [&str; 7] = [
+const CALLS: [&str; 8] = [
     "judge",
     "read_model",
     "zone_empty",
@@ -15,16 +16,17 @@ const CALLS: [&str; 7] = [
     "program",
     "submit",
     "rank",
+    "draft",
 ];
 
-/// All refusals of document 01, and those of document 02, cards 1 and 3.
-const REFUSALS: [u32; 28] = [
+/// All refusals of document 01, and those of document 02, cards 1, 3 and 5.
+const REFUSALS: [u32; 31] = [
     1, 2, 3, 4, 5, 6, 11, 12, 13, 14, 15, 16, 17, 18, 19, 20, 21, 31, 32, 33, 41, 42, 51, 52, 53,
-    54, 55, 56,
+    54, 55, 56, 58, 59, 60,
 ];
 
-/// All answers that are no refusals, and the refusal that two calls give.
-const ANSWERS: [(&str, Answer); 11] = [
+/// All answers that are no refusals, and refusals that several calls give.
+const ANSWERS: [(&str, Answer); 18] = [
     ("judge", Answer::Accepted),
     ("read_model", Answer::Accepted),
     ("zone_empty", Answer::Yes),
@@ -36,6 +38,13 @@ const ANSWERS: [(&str, Answer); 11] = [
     ("submit", Answer::Refused(54)),
     ("rank", Answer::Accepted),
     ("rank", Answer::Refused(54)),
+    ("draft", Answer::Accepted),
+    ("draft", Answer::Refused(1)),
+    ("draft", Answer::Refused(2)),
+    ("draft", Answer::Refused(3)),
+    ("draft", Answer::Refused(4)),
+    ("draft", Answer::Refused(5)),
+    ("draft", Answer::Refused(6)),
 ];
 
 /// Answers that card 4 must have changed, and how often at least. None is changed to an acceptance: the
@@ -173,6 +182,26 @@ pub fn boards(tally: &BoardTally) -> String {
     lines.join("\n") + "\n"
 }
 
+/// What the drafts came to.
+pub fn drafts(tally: &DraftTally) -> String {
+    let with = &tally.with;
+    let lines = [
+        format!(
+            "models with a draft: {}; with an empty node {}, a node found again {}, a way back {}, an edge that can land outside {}, a cycle that keeps V {}, 64 nodes {}, a fraction between 0 and 1 {}",
+            tally.models, with.empty, with.reused, with.back, with.outside, with.kept, with.full, with.between
+        ),
+        format!(
+            "models without one: by 58 {}, with 59 due at the same node {}; by 59 at node 0 {}, later {}; by the model's own refusal {}",
+            tally.too_many, tally.both_due, tally.far_at_once, tally.far_later, tally.handed_on
+        ),
+        format!(
+            "words lent: exactly enough {}, one too few {}, none {}; more rounds with a smaller fraction: {}; drafts played at scales 1 to 6: {}",
+            tally.exact, tally.one_too_few, tally.none_lent, tally.fell, tally.played
+        ),
+    ];
+    lines.join("\n") + "\n"
+}
+
 fn listed<K: Display>(counts: &BTreeMap<K, usize>) -> String {
     let entries: Vec<String> = counts
         .iter()
@@ -207,6 +236,8 @@ pub fn lacks(tally: &Tally, evidence: &Evidence) -> Vec<String> {
         (count, least, what)
     });
     let boards = due_of_boards(tally).map(|(count, least, what)| (count, least, what.to_string()));
+    let drafts =
+        due_of_drafts(&tally.drafts).map(|(count, least, what)| (count, least, what.to_string()));
     let all = refused
         .into_iter()
         .chain(answered)
@@ -214,7 +245,8 @@ pub fn lacks(tally: &Tally, evidence: &Evidence) -> Vec<String> {
         .chain(others)
         .chain(tried)
         .chain(changed)
-        .chain(boards);
+        .chain(boards)
+        .chain(drafts);
     let short = all.filter(|(count, least, _)| count < least);
     short
         .map(|(count, least, what)| format!("{what}: {count} where {least} are due"))
@@ -302,6 +334,30 @@ fn due_of_boards(tally: &Tally) -> [(usize, usize, &'static str); 13] {
     ]
 }
 
+/// What the drafts must have met, and how often at least.
+fn due_of_drafts(tally: &DraftTally) -> [(usize, usize, &'static str); 17] {
+    let with = &tally.with;
+    [
+        (tally.models, 2000, "models with a draft"),
+        (with.empty, 500, "drafts with an empty node"),
+        (with.reused, 500, "drafts with a node found again"),
+        (with.back, 500, "drafts with a way back"),
+        (with.outside, 500, "drafts with a landing outside"),
+        (with.kept, 100, "drafts with a cycle that keeps V"),
+        (with.full, 20, "drafts of 64 nodes"),
+        (with.between, 100, "drafts between 0 and 1"),
+        (tally.too_many, 200, "models refused with 58"),
+        (tally.both_due, 10, "65th nodes beyond 4,095"),
+        (tally.far_at_once, 50, "models refused with 59 at node 0"),
+        (tally.far_later, 50, "models refused with 59 later"),
+        (tally.handed_on, 500, "models refused by themselves"),
+        (tally.one_too_few, 2000, "drafts with one word too few"),
+        (tally.none_lent, 2000, "drafts without lent words"),
+        (tally.fell, 100, "smaller fractions by more rounds"),
+        (tally.played, 500, "drafts played"),
+    ]
+}
+
 #[cfg(test)]
 mod tests {
     use super::*;
@@ -310,6 +366,6 @@ mod tests {
     fn an_idle_run_lacks_everything() {
         let lacks = lacks(&Tally::default(), &Evidence::default());
         let lists = REFUSALS.len() + ANSWERS.len() + CHANGES.len();
-        assert_eq!(lacks.len(), lists + 5 + 4 + 10 + 13);
+        assert_eq!(lacks.len(), lists + 5 + 4 + 10 + 13 + 17);
     }
 }

@@ -2,9 +2,11 @@
 
 use crate::boundaries::large_sum;
 use crate::comparer::{Fault, PLAIN, UNDER_TEST};
+use crate::drafting;
 use crate::evidence::Evidence;
 use crate::flawed::{flawed_judge, Flaw};
 use crate::flawed_board::BoardFlaw;
+use crate::flawed_draft::DraftFlaw;
 use crate::histories;
 use crate::plan::{small_pairs, Run, Work};
 use crate::player::Miss;
@@ -38,6 +40,18 @@ pub fn wrong_boards() -> Result<Vec<(String, usize)>, Fault> {
 pub fn wrong_plain_boards() -> Result<Vec<(String, usize)>, Fault> {
     let caught = |wrong: &Wrong| caught_as_plain(wrong, |run| run.boards(&Work::SHORT));
     wrong::boards().iter().map(caught).collect()
+}
+
+/// The same with every wrong draft, and with drafts alone.
+pub fn wrong_drafts() -> Result<Vec<(String, usize)>, Fault> {
+    let caught = |wrong: &Wrong| caught(wrong, |run| run.drafts(&Work::SHORT));
+    wrong::drafts().iter().map(caught).collect()
+}
+
+/// And with every wrong draft in the place of the plain judge's.
+pub fn wrong_plain_drafts() -> Result<Vec<(String, usize)>, Fault> {
+    let caught = |wrong: &Wrong| caught_as_plain(wrong, |run| run.drafts(&Work::SHORT));
+    wrong::drafts().iter().map(caught).collect()
 }
 
 fn caught(wrong: &Wrong, part: Part) -> Result<(String, usize), Fault> {
@@ -79,6 +93,45 @@ pub fn flaws_against_law() -> Result<Vec<(String, usize)>, Fault> {
     };
     BoardFlaw::ALL.into_iter().map(objected).collect()
 }
+
+/// Holds each flawed draft against what card 5 says of every draft, without any comparison: its name and
+/// the models before one was objected to.
+pub fn draft_flaws_against_law() -> Result<Vec<(String, usize)>, Fault> {
+    let objected = |flaw| {
+        let wrong = wrong::flawed_draft(flaw);
+        let before = drafting::objected(&wrong, &mut Random::new(5), 1000);
+        let before = before.ok_or(Fault(format!("the card does not object to {flaw:?}")))?;
+        Ok((wrong.name, before))
+    };
+    let seen = |flaw: &DraftFlaw| !NOT_BY_THE_CARD_ALONE.contains(flaw);
+    DraftFlaw::ALL
+        .into_iter()
+        .filter(seen)
+        .map(objected)
+        .collect()
+}
+
+/// These lead to another table that would do, or to another refusal: only the comparison tells.
+const NOT_BY_THE_CARD_ALONE: [DraftFlaw; 18] = [
+    DraftFlaw::ForgetsTheGuard,
+    DraftFlaw::DelaysSuccessors,
+    DraftFlaw::DraftsRowsOfAnEmptyReach,
+    DraftFlaw::ReusesLargerZones,
+    DraftFlaw::Refuses64Nodes,
+    DraftFlaw::Asks58BeforeReuse,
+    DraftFlaw::Asks59Before58,
+    DraftFlaw::Refuses4095,
+    DraftFlaw::Asks59AtTheEnd,
+    DraftFlaw::RoundsInPlace,
+    DraftFlaw::RoundsUpEachEdge,
+    DraftFlaw::RoundsUpWholeNumbersToo,
+    DraftFlaw::CountsRoundsUpTo999,
+    DraftFlaw::DoesOneRoundLess,
+    DraftFlaw::StopsOnceTheStartStays,
+    DraftFlaw::KeepsVWithoutRows,
+    DraftFlaw::KeepsVAtEmptyNodes,
+    DraftFlaw::TakesVForTheWholeRow,
+];
 
 /// Something false that was told, and what came of it.
 type Told = (&'static str, Result<(), Fault>);
@@ -315,6 +368,27 @@ mod tests {
         assert!(objected.is_ok(), "{objected:?}");
         let right = wrong::right("right");
         let none = histories::objected(&right, &mut Random::new(5), 20);
+        assert_eq!(none, None);
+    }
+
+    #[test]
+    fn every_wrong_draft_is_caught() {
+        let caught = wrong_drafts();
+        assert!(caught.is_ok(), "{caught:?}");
+    }
+
+    #[test]
+    fn so_is_every_wrong_draft_of_the_plain_judge() {
+        let caught = wrong_plain_drafts();
+        assert!(caught.is_ok(), "{caught:?}");
+    }
+
+    #[test]
+    fn the_card_objects_to_flawed_drafts() {
+        let objected = draft_flaws_against_law();
+        assert!(objected.is_ok(), "{objected:?}");
+        let right = wrong::right("right");
+        let none = drafting::objected(&right, &mut Random::new(5), 100);
         assert_eq!(none, None);
     }
 

@@ -32,6 +32,8 @@ pub enum Shape {
     LongZones(usize),
     Submit { held: bool },
     Rank { held: bool },
+    WorkedDraft,
+    FullDraft { rounds: u64 },
 }
 
 /// The lines, in the order in which they are printed.
@@ -53,6 +55,8 @@ pub fn all() -> Vec<Shape> {
     }
     shapes.extend([false, true].map(|held| Shape::Submit { held }));
     shapes.extend([false, true].map(|held| Shape::Rank { held }));
+    shapes.push(Shape::WorkedDraft);
+    shapes.extend([0, 10, 1000].map(|rounds| Shape::FullDraft { rounds }));
     shapes
 }
 
@@ -88,6 +92,10 @@ impl Shape {
             Shape::Submit { held: true } => "submit, worked case, full board",
             Shape::Rank { held: false } => "rank, no slot held",
             Shape::Rank { held: true } => return format!("rank, {SLOTS} slots held"),
+            Shape::WorkedDraft => "draft, worked case, 2 rounds",
+            Shape::FullDraft { rounds } => {
+                return format!("draft, full: 4 clocks, {MOST_NODES} nodes, {rounds} rounds");
+            }
         };
         name.to_string()
     }
@@ -107,6 +115,8 @@ impl Shape {
             Shape::LongZones(words) => Input::Zones(bounds(1, words / 2), bounds(2, words / 2)),
             Shape::Submit { held } => Input::Submission(board(held), worked_submission()),
             Shape::Rank { held } => Input::Rank(board(held)),
+            Shape::WorkedDraft => Input::draft(worked::MODEL.to_vec(), 2, worked::DRAFT.len()),
+            Shape::FullDraft { rounds } => Input::draft(drafted_model(), rounds, FULL_DRAFT),
         }
     }
 }
@@ -124,15 +134,23 @@ pub enum Input {
     Zones(Vec<u32>, Vec<u32>),
     Submission([Slot; SLOTS], Submission),
     Rank([Slot; SLOTS]),
+    /// With exactly as many lent words as the draft has.
+    Draft {
+        model: Vec<u32>,
+        rounds: u64,
+        lent: usize,
+    },
 }
 
-/// What a call answers; the list of a rank is not in it, since each side has its own form for it.
+/// What a call answers; the list of a rank is not in it, since each side has its own form for it, nor are
+/// the words of a draft, which are those that were lent.
 #[derive(Debug, PartialEq)]
 pub enum Answer {
     Judged(Result<Certificate, Refusal>),
     Read(Result<Counts, Refusal>),
     Asked(Result<bool, Refusal>),
     Ranked,
+    Drafted(Result<usize, Refusal>),
 }
 
 impl Answer {
@@ -142,11 +160,21 @@ impl Answer {
             Answer::Read(answer) => answer.is_err(),
             Answer::Asked(answer) => answer.is_err(),
             Answer::Ranked => false,
+            Answer::Drafted(answer) => answer.is_err(),
         }
     }
 }
 
 impl Input {
+    fn draft(model: Vec<u32>, rounds: u64, lent: usize) -> Input {
+        Input::Draft {
+            model,
+            rounds,
+            lent,
+        }
+    }
+
+    /// How many words are read, or written to what is lent.
     pub fn words(&self) -> usize {
         match self {
             Input::Judging(first, second) | Input::Zones(first, second) => {
@@ -155,6 +183,24 @@ impl Input {
             Input::Model(words) | Input::Zone(words) => words.len(),
             Input::Submission(_, submission) => submission.model.len() + submission.table.len(),
             Input::Rank(_) => 0,
+            Input::Draft { model, lent, .. } => model.len() + lent,
+        }
+    }
+
+    /// About how much there is to do: the words, once more for every round.
+    pub fn work(&self) -> u64 {
+        let rounds = match self {
+            Input::Draft { rounds, .. } => *rounds,
+            _ => 0,
+        };
+        self.words() as u64 * (1 + rounds)
+    }
+
+    /// The words that a side lends to its calls.
+    pub fn lent(&self) -> Vec<u32> {
+        match self {
+            Input::Draft { lent, .. } => vec![0; *lent],
+            _ => Vec::new(),
         }
     }
 
@@ -167,9 +213,10 @@ impl Input {
     }
 
     /// One call, of which the compiler knows nothing beforehand. The board is this side's, with the
-    /// slots of this input. Inlined, since what stands around a call is counted with it.
+    /// slots of this input, and so are the lent words. Inlined, since what stands around a call is
+    /// counted with it.
     #[inline]
-    pub fn ask(&self, side: &dyn Side, board: &mut dyn Kept) -> Answer {
+    pub fn ask(&self, side: &dyn Side, board: &mut dyn Kept, lent: &mut [u32]) -> Answer {
         match black_box(self) {
             Input::Judging(model, table) => Answer::Judged(side.judge(model, table)),
             Input::Model(words) => Answer::Read(side.read_model(words)),
@@ -180,6 +227,7 @@ impl Input {
                 board.rank();
                 Answer::Ranked
             }
+            Input::Draft { model, rounds, .. } => Answer::Drafted(side.draft(model, *rounds, lent)),
         }
     }
 }
@@ -388,11 +436,57 @@ fn cut_table(clocks: usize) -> Vec<u32> {
     table
 }
 
+/// How long the full draft is: a head, 63 nodes with 20 bounds and 128 successors, one without actions, and
+/// the start.
+const FULL_DRAFT: usize = 2 + 63 * (2 + 20 + 32 * 4) + 2 + 20;
+
+/// Which clocks the edges reset, in turn: 63 zones are found at the location.
+const RESETS: [u32; 9] = [1, 2, 3, 4, 5, 7, 8, 9, 10];
+
+/// A model for as large a draft as there can be whose values change in every round. The first location has
+/// as many actions and edges as a model can have, and all of them are allowed from every node. Of each
+/// action one edge leads on to a location without actions, by all clocks reset, so that this has one node.
+fn drafted_model() -> Vec<u32> {
+    let mut model = vec![spell::head(4, 65_535), spell::location(false)];
+    model.extend(each_at_most(4, 20));
+    for action in 0..32 {
+        model.extend([spell::ACTION, at_most(1 + action % 4, 0, 20)]);
+        let resets = |edge| RESETS[(3 * action + edge) % RESETS.len()];
+        model.extend((0..3).map(|edge| spell::edge(resets(edge), 0, 21_845 - edge as u32 / 2)));
+        model.push(spell::edge(0b1111, 1, 1));
+    }
+    model.extend([spell::location(false), spell::start(0)]);
+    model.extend(each_at_most(4, 0));
+    model
+}
+
 #[cfg(test)]
 mod tests {
     use super::*;
     use crate::plain;
-    use crate::reading::judge;
+    use crate::reading::{draft, judge};
+
+    /// The words of the full draft after so many rounds.
+    fn full_draft(rounds: u64) -> Vec<u32> {
+        let mut lent = vec![0; FULL_DRAFT];
+        let length = draft(&drafted_model(), rounds, &mut lent);
+        assert_eq!(length, Ok(FULL_DRAFT));
+        lent
+    }
+
+    /// The lines on drafts are about 64 nodes, no row of which is blocked, and about values that fall up to
+    /// the last round.
+    #[test]
+    fn a_full_draft_is_full_and_changes() {
+        let of_kind = |words: &[u32], kind| words.iter().filter(|word| *word >> 28 == kind).count();
+        let table = full_draft(0);
+        let counts = [8, 0xA, 0xB].map(|kind| of_kind(&table, kind));
+        assert_eq!(counts, [MOST_NODES, 0, 63 * 128]);
+        for rounds in [1, 2, 10, 999, 1000] {
+            assert_ne!(full_draft(rounds - 1), full_draft(rounds));
+        }
+        assert!(judge(&drafted_model(), &full_draft(1000)).is_ok());
+    }
 
     /// The lines on landings outside are about edges that land there: what their successor is worth does
     /// not matter, and a node that is worth less than V is refused.

@@ -9,8 +9,8 @@ use std::time::Duration;
 use crate::plain;
 use crate::reading::{self, Certificate, Counts, Refusal, Slot};
 
-/// The four calls and the program, with the answers of document 01, and the two calls of document
-/// 02, card 3.
+/// The four calls and the program, with the answers of document 01, the two calls of document 02,
+/// card 3, and the one of its card 5.
 pub trait Side {
     fn judge(&self, model: &[u32], table: &[u32]) -> Result<Certificate, Refusal>;
     fn read_model(&self, words: &[u32]) -> Result<Counts, Refusal>;
@@ -30,6 +30,9 @@ pub trait Side {
     ) -> Result<Certificate, Refusal>;
     /// The held slots in rank.
     fn rank(&self, slots: &[Slot]) -> Result<Vec<usize>, Refusal>;
+    /// Drafts a table into the first of the lent words (document 02, card 5); hands back how many
+    /// they are.
+    fn draft(&self, model: &[u32], rounds: u64, lent: &mut [u32]) -> Result<usize, Refusal>;
 }
 
 /// The independent reading.
@@ -70,6 +73,10 @@ impl Side for Reading {
 
     fn rank(&self, slots: &[Slot]) -> Result<Vec<usize>, Refusal> {
         reading::rank(slots)
+    }
+
+    fn draft(&self, model: &[u32], rounds: u64, lent: &mut [u32]) -> Result<usize, Refusal> {
+        reading::draft(model, rounds, lent)
     }
 }
 
@@ -129,6 +136,10 @@ impl Side for Plain {
         let board: Vec<plain::Slot> = slots.iter().map(plain_slot).collect();
         let order = plain::rank(&board).map_err(plainly_refused)?;
         Ok(order.to_vec())
+    }
+
+    fn draft(&self, model: &[u32], rounds: u64, lent: &mut [u32]) -> Result<usize, Refusal> {
+        plain::draft(model, rounds, lent).map_err(plainly_refused)
     }
 }
 
@@ -240,6 +251,11 @@ impl Side for UnderTest {
         let answer = miss_chance::rank(&room[1..room.len() - 1]);
         let ranking = answer.result().map_err(refused)?;
         Ok(ranking.to_vec())
+    }
+
+    fn draft(&self, model: &[u32], rounds: u64, lent: &mut [u32]) -> Result<usize, Refusal> {
+        let answer = miss_chance::draft_into(model, rounds, lent);
+        answer.result().map_err(refused)
     }
 }
 

@@ -1,8 +1,9 @@
 //! The cases of "Timeline M and table T" of document 01, with the answers written there; and cases of
-//! document 02, cards 1 and 4, for the same timeline, with the answers worked out from the cards by
+//! document 02, cards 1, 4 and 5, for the same timeline, with the answers worked out from the cards by
 //! hand.
 
 use crate::comparer::Fault;
+use crate::drafting::drafted;
 use crate::reading::{Certificate, Refusal};
 use crate::sides::Side;
 use crate::spell;
@@ -23,6 +24,12 @@ pub const CUT_TABLE: [u32; 22] = [
     0x7000000A, 0x80000000, 0x51001003, 0x90000001, 0xD1001001, 0xB0000003, 0xB0000004, 0x81000000,
     0x90000000, 0x82000000, 0x9000000A, 0x80000000, 0x51001001, 0x90000001, 0xB0000001, 0xB0000002,
     0x80000000, 0x50180FFF, 0x90000001, 0xB0000001, 0xB0000002, 0xC0000000,
+];
+
+/// The table drafted for the model after two rounds (card 5).
+pub const DRAFT: [u32; 16] = [
+    0x700F4240, 0x80000000, 0x50101000, 0x51001000, 0x900186A0, 0xB0000001, 0xB0000002, 0x81000000,
+    0x50100FFE, 0x51001003, 0x90000000, 0x82000000, 0x50100FFE, 0x51001003, 0x900F4240, 0xC0000000,
 ];
 
 /// A case of judging.
@@ -199,14 +206,49 @@ fn landings_by_choice() -> Vec<Case> {
 
 /// All worked cases of judging.
 pub fn all() -> Vec<Case> {
-    [cases(), cuts(), landings()]
+    let drafted = case(MODEL.to_vec(), &DRAFT, "ACCEPTED 100000 1000000 3");
+    [cases(), cuts(), landings(), vec![drafted]]
         .into_iter()
         .flatten()
         .collect()
 }
 
-/// Asks one side for the answers that document 01 writes down, and for those of cards 1 and 4.
+/// The draft of the model, by rounds: two values differ. Node 1 has no action and is worth 0 after a round,
+/// node 0 then 1 in 10 after the next.
+fn drafts() -> Vec<(u64, Vec<u32>)> {
+    let valued = |first: u32, second: u32| {
+        let words = with(&DRAFT, 4, 0x90000000 | first);
+        with(&words, 10, 0x90000000 | second)
+    };
+    let settled = |rounds| (rounds, DRAFT.to_vec());
+    let mut drafts = vec![(0, valued(1_000_000, 1_000_000)), (1, valued(1_000_000, 0))];
+    drafts.extend([2, 3, 1000, 1001, u64::MAX].map(settled));
+    drafts
+}
+
+fn check_drafts(side: &dyn Side) -> Result<(), Fault> {
+    for (rounds, words) in drafts() {
+        let named = |lent: usize| format!("the draft after {rounds} rounds, {lent} words lent");
+        for (lent, due) in [
+            (16, Ok(words.clone())),
+            (20, Ok(words.clone())),
+            (15, Err(60)),
+        ] {
+            let drafted = drafted(side, &MODEL, rounds, lent).table();
+            let drafted = drafted.map(|answer| answer.map_err(|refusal| refusal.number));
+            expect(
+                &named(lent),
+                &format!("{:?}", Ok::<_, ()>(due)),
+                &format!("{drafted:?}"),
+            )?;
+        }
+    }
+    Ok(())
+}
+
+/// Asks one side for the answers that document 01 writes down, and for those of cards 1, 4 and 5.
 pub fn check(side: &dyn Side) -> Result<(), Fault> {
+    check_drafts(side)?;
     for case in all() {
         let words = [&case.model[..], &case.table].concat();
         let judged = line(side.judge(&case.model, &case.table));

@@ -1,7 +1,8 @@
-//! Judges and boards that are wrong on purpose. Tests that let one of them pass would be worth nothing.
+//! Judges, boards and drafts that are wrong on purpose. Tests that let one of them pass would be worth nothing.
 
 use crate::flawed::{flawed_judge, Flaw};
 use crate::flawed_board::{BoardFlaw, Request};
+use crate::flawed_draft::DraftFlaw;
 use crate::reading::{self, Certificate, Counts, Refusal, Slot};
 use crate::sides::Side;
 
@@ -13,6 +14,7 @@ type Program = Box<dyn Fn(&[u8]) -> String>;
 type Submit =
     Box<dyn Fn(&mut [Slot], &mut u32, u32, u32, &[u32], &[u32]) -> Result<Certificate, Refusal>>;
 type Rank = Box<dyn Fn(&[Slot]) -> Result<Vec<usize>, Refusal>>;
+type Draft = Box<dyn Fn(&[u32], u64, &mut [u32]) -> Result<usize, Refusal>>;
 
 /// A side made of closures.
 pub struct Wrong {
@@ -24,6 +26,7 @@ pub struct Wrong {
     program: Program,
     submit: Submit,
     rank: Rank,
+    draft: Draft,
 }
 
 impl Side for Wrong {
@@ -62,6 +65,10 @@ impl Side for Wrong {
     fn rank(&self, slots: &[Slot]) -> Result<Vec<usize>, Refusal> {
         (self.rank)(slots)
     }
+
+    fn draft(&self, model: &[u32], rounds: u64, lent: &mut [u32]) -> Result<usize, Refusal> {
+        (self.draft)(model, rounds, lent)
+    }
 }
 
 /// All judges.
@@ -93,6 +100,15 @@ pub fn boards() -> Vec<Wrong> {
     boards
 }
 
+/// All drafts. Their judge is right.
+pub fn drafts() -> Vec<Wrong> {
+    let mut drafts: Vec<Wrong> = DraftFlaw::ALL.into_iter().map(flawed_draft).collect();
+    let numbers = [1, 2, 3, 4, 5, 6, 58, 59, 60];
+    drafts.extend(numbers.map(misplaced_in_draft));
+    drafts.extend([(58, 59), (59, 60), (58, 60)].map(exchanged_in_draft));
+    drafts
+}
+
 /// The reading itself, to be spoiled in one call.
 pub fn right(name: &str) -> Wrong {
     Wrong {
@@ -104,6 +120,7 @@ pub fn right(name: &str) -> Wrong {
         program: Box::new(reading::program),
         submit: Box::new(reading::submit),
         rank: Box::new(reading::rank),
+        draft: Box::new(reading::draft),
     }
 }
 
@@ -152,6 +169,35 @@ fn misplaced_in_submission(number: u32) -> Wrong {
 
 fn exchanged_in_submission((one, other): (u32, u32)) -> Wrong {
     with_refusals(format!("exchanges {one} and {other}"), move |refusal| {
+        exchanged(refusal, one, other)
+    })
+}
+
+pub fn flawed_draft(flaw: DraftFlaw) -> Wrong {
+    Wrong {
+        draft: Box::new(move |model, rounds, lent| flaw.draft(model, rounds, lent)),
+        ..right(&format!("{flaw:?}"))
+    }
+}
+
+/// A right draft whose refusals are changed.
+fn with_draft_refusals(name: String, change: impl Fn(Refusal) -> Refusal + 'static) -> Wrong {
+    Wrong {
+        draft: Box::new(move |model, rounds, lent| {
+            reading::draft(model, rounds, lent).map_err(&change)
+        }),
+        ..right(&name)
+    }
+}
+
+fn misplaced_in_draft(number: u32) -> Wrong {
+    with_draft_refusals(format!("misplaces {number}"), move |refusal| {
+        moved(refusal, number)
+    })
+}
+
+fn exchanged_in_draft((one, other): (u32, u32)) -> Wrong {
+    with_draft_refusals(format!("exchanges {one} and {other}"), move |refusal| {
         exchanged(refusal, one, other)
     })
 }

@@ -1,9 +1,10 @@
 //! Compares the judge under test and the plain judge with the independent reading, answers with the
-//! exhaustive player, and boards with the law of document 02, card 3.
+//! exhaustive player, boards with the law of document 02, card 3, and drafts with what its card 5 says
+//! of every draft.
 //!
 //! `compare [--program PATH] [--long N]`: exit code 0 if all answers agree and nothing is lacking.
 //! `--long N` does the work N times, each time with other seeds.
-//! `compare --wrong`: exit code 0 if all judges and boards that are wrong on purpose are caught.
+//! `compare --wrong`: exit code 0 if all judges, boards and drafts that are wrong on purpose are caught.
 
 use std::path::{Path, PathBuf};
 use std::process::ExitCode;
@@ -81,6 +82,7 @@ fn compare(settings: &Settings) -> Result<(), Fault> {
     print!("{}", report::comparisons(&run.comparer.tally));
     print!("{}", report::evidence(&run.evidence, &run.comparer.tally));
     print!("{}", report::boards(&run.comparer.tally.boards));
+    print!("{}", report::drafts(&run.comparer.tally.drafts));
     let lacks = report::lacks(&run.comparer.tally, &run.evidence);
     if lacks.is_empty() {
         return Ok(());
@@ -101,6 +103,14 @@ fn catch_wrong_judges() -> Result<(), Fault> {
     println!("boards caught in the place of the plain judge's, too: {as_plain}");
     for (name, before) in self_check::flaws_against_law()? {
         println!("the law objects after {before:>5} boards and histories: {name}");
+    }
+    for (name, before) in self_check::wrong_drafts()? {
+        println!("draft caught after {before:>5} equal answers: {name}");
+    }
+    let as_plain = self_check::wrong_plain_drafts()?.len();
+    println!("drafts caught in the place of the plain judge's, too: {as_plain}");
+    for (name, before) in self_check::draft_flaws_against_law()? {
+        println!("card 5 objects to a draft after {before:>5} models: {name}");
     }
     for (name, before) in self_check::flaws_against_player()? {
         println!("the player objects after {before:>5} answers: {name}");

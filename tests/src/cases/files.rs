@@ -6,6 +6,7 @@ use std::path::{Path, PathBuf};
 
 use super::answers::answer;
 use super::calls::call;
+use super::drafts::{draft, CALL};
 use super::histories::{history, ARROW};
 use super::lines::{lines, Line};
 use super::words::{good_name, words, Named};
@@ -129,8 +130,10 @@ fn case(file: &str, line: &Line, named: &Named) -> Result<Case, String> {
     if name.is_empty() {
         return Err("a case without a name".to_string());
     }
+    let drafts = columns.first().is_some_and(|call| call.starts_with(CALL));
     let question = match line.text.contains(ARROW) {
         true => Question::History(history(columns, named)?),
+        false if drafts => Question::Draft(draft(columns, named)?),
         false => asked(columns, named)?,
     };
     Ok(Case {

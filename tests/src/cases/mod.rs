@@ -2,8 +2,8 @@
 //! and the answer of documents 01 and 02; or its name and the history of a board.
 //!
 //! `lines` takes a text apart, `words` reads lists of words, `changes` the changes in one, `calls` the
-//! calls and `answers` what they answer, `boards` the boards and `histories` what is done with one;
-//! `files` puts the cases together. `run` asks the library, the independent reading and the plain
+//! calls and `answers` what they answer, `boards` the boards and `histories` what is done with one,
+//! `drafts` drafted tables; `files` puts the cases together. `run` asks the library, the independent reading and the plain
 //! judge and, where the words are a whole file, the program. `tests/cases/README.md` says how the
 //! lines are written.
 
@@ -11,6 +11,7 @@ pub mod answers;
 pub mod boards;
 pub mod calls;
 mod changes;
+pub mod drafts;
 pub mod files;
 pub mod histories;
 mod lines;
@@ -21,6 +22,7 @@ use std::fmt;
 
 use answers::Answer;
 use calls::Call;
+use drafts::Draft;
 use histories::History;
 
 /// A case, and where it stands.
@@ -37,6 +39,7 @@ pub struct Case {
 pub enum Question {
     Call(Call, Answer),
     History(History),
+    Draft(Draft),
 }
 
 impl fmt::Display for Question {
@@ -45,6 +48,7 @@ impl fmt::Display for Question {
         match self {
             Question::Call(call, answer) => write!(out, "{call} | {answer}"),
             Question::History(history) => write!(out, "{history}"),
+            Question::Draft(draft) => write!(out, "{draft}"),
         }
     }
 }

@@ -6,6 +6,7 @@ use std::fmt::Write;
 
 use super::answers::Answer;
 use super::calls::Call;
+use super::drafts::Draft;
 use super::histories::{Difference, History};
 use super::{Case, Question};
 use crate::sides::{Plain, Reading, Side};
@@ -13,12 +14,13 @@ use crate::spell;
 
 /// How many cases there are at least, and how many of them are whole files. A number below means that
 /// one got lost.
-const LEAST: [(&str, &[&str], usize); 5] = [
+const LEAST: [(&str, &[&str], usize); 6] = [
     ("zone cases", &["zone_empty", "zone_inside"], 519),
     ("model cases", &["read_model"], 1627),
-    ("judge cases", &["judge"], 3483),
+    ("judge cases", &["judge"], 3489),
     ("histories of a board", &["board"], 364),
-    ("whole files", &["program"], 4958),
+    ("drafts", &["draft"], 234),
+    ("whole files", &["program"], 5139),
 ];
 
 /// What a run came to.
@@ -58,6 +60,7 @@ impl Outcome {
         match &case.question {
             Question::Call(call, answer) => self.call(case, call, *answer, under_test),
             Question::History(history) => self.history(case, history, under_test),
+            Question::Draft(draft) => self.draft(case, draft, under_test),
         }
     }
 
@@ -67,12 +70,16 @@ impl Outcome {
         for (who, side) in sides(under_test) {
             self.hold(&place(case), who, &expected, &call.asked(side).to_string());
         }
-        let Some(file) = call.whole_file() else {
-            return;
-        };
+        if let Some(file) = call.whole_file() {
+            self.file(case, &file, call.of_whole_file(answer), under_test);
+        }
+    }
+
+    /// A whole file and what the program answers to it.
+    fn file(&mut self, case: &Case, file: &[u32], answer: Answer, under_test: &dyn Side) {
         *self.counts.entry("program").or_default() += 1;
-        let expected = format!("{}\n", call.of_whole_file(answer));
-        let bytes = spell::bytes(&file);
+        let expected = format!("{answer}\n");
+        let bytes = spell::bytes(file);
         for (who, side) in [
             ("program", under_test),
             ("reading of the file", &Reading),
@@ -89,6 +96,20 @@ impl Outcome {
                 let asked = format!("{}: {of}", place(case));
                 self.hold(&asked, who, &expected, &got);
             }
+        }
+    }
+
+    /// A draft, and the table judged, also as a whole file.
+    fn draft(&mut self, case: &Case, draft: &Draft, under_test: &dyn Side) {
+        *self.counts.entry("draft").or_default() += 1;
+        for (who, side) in sides(under_test) {
+            for (asked, expected, got) in draft.held(side) {
+                let asked = format!("{}: {asked}", place(case));
+                self.hold(&asked, who, &expected, &got);
+            }
+        }
+        if let Some((file, answer)) = draft.whole_file() {
+            self.file(case, &file, answer, under_test);
         }
     }
 
@@ -265,6 +286,39 @@ mod tests {
             "leaves the odd bytes",
         ];
         assert_eq!(passed, of_bytes);
+    }
+
+    /// All drafts that are wrong on purpose.
+    #[test]
+    fn wrong_drafts_are_caught() {
+        let mut cases = stored();
+        cases.retain(|case| matches!(case.question, Question::Draft(_)));
+        for side in wrong::drafts() {
+            let outcome = Outcome::of(&cases, &side);
+            assert!(!outcome.differences.is_empty(), "{}", side.name);
+            let told = |one: &String| one.contains("the library says");
+            assert!(outcome.differences.iter().all(told), "{}", side.name);
+        }
+    }
+
+    /// Every stored draft with one word changed, and every refusal of one.
+    #[test]
+    fn every_word_of_a_draft_counts() {
+        for case in stored() {
+            let Question::Draft(draft) = case.question else {
+                continue;
+            };
+            for at in 0..draft.answer.as_ref().map_or(1, Vec::len) {
+                let mut changed = draft.clone();
+                match &mut changed.answer {
+                    Ok(table) => table[at] ^= 1,
+                    Err(refusal) => refusal.place += 1,
+                }
+                let held = changed.held(&Reading);
+                let caught = held.iter().any(|(_, due, got)| due != got);
+                assert!(caught, "{}: word {at}", case.name);
+            }
+        }
     }
 
     /// All boards that are wrong on purpose.
