@@ -17,7 +17,7 @@ use Rattle.model.proofs.GoodModel.{GoodModel}
 use Rattle.model.proofs.IndexLaws.{location-at}
 use Rattle.model.proofs.WellFormed.{weigh, FormedEdge, WellFormed}
 use Rattle.judge.proofs.RowLaws.{ActionIs, actions-at, edges-at}
-use Rattle.draft.specs.Asked.{weightsFrom, ActionAsked, ModelAsked}
+use Rattle.draft.specs.Asked.{weightsFrom, ActionAsked, ModelAsked, RoundsAsked}
 
 -- what every element tells of its number holds of the numbers of all
 each-number : {A : Type 0} {P : ℕ → A → Type 0} (Q : ℕ → Type 0) → ((n : ℕ) (y : A) → P n y → Q n) → (k : ℕ) (ys : List A) → Each P k ys →
@@ -51,10 +51,12 @@ module _ {M : Model} {m : Kept} (x : Indexed M m) (good : GoodModel M) (formed :
   action-asked : (a : ℕ) (A : Action) → ActionIs M m a A → ActionAsked m a
   action-asked a A i = record {
     guard = rw (i .at .guard) (tightens-fewer 2 3 _ (omega arith) (tightens-bounds (A .guard) (i .good .guard)));
-    few = rw (edges-at (i .at)) (i .formed .few);
-    rises = rw (i .at .ends) (N.le-add-right _ (length (A .edges)));
+    edges = record {
+      few = rw (edges-at (i .at)) (i .formed .few);
+      rises = rw (i .at .ends) (N.le-add-right _ (length (A .edges)));
+      weights = rw (edges-at (i .at), weights-are _ (A .edges) (i .at .edges), i .formed .weights, x .denominator) (N.le-refl (M .denominator));
+    };
     lands = λ e low high. lands _ (A .edges) (i .at .edges) (i .formed .edges) e low (rw (i .at .ends) at high);
-    weights = rw (edges-at (i .at), weights-are _ (A .edges) (i .at .edges), i .formed .weights, x .denominator) (N.le-refl (M .denominator));
   }
 
   pub model-asked : StoresFit (m .edges) (m .zones) → ModelAsked m
@@ -72,3 +74,14 @@ module _ {M : Model} {m : Kept} (x : Indexed M m) (good : GoodModel M) (formed :
     where
       there : (l : ℕ) → l < m .index .locations → l < length (M .locations)
       there l h = rw (x .locations) at h
+
+-- what the rounds ask of a model is among it
+pub rounds-asked : {m : Kept} → ModelAsked m → RoundsAsked (m .index) (m .edges)
+rounds-asked asked = record {
+  store = asked .stores .edges;
+  locations = asked .locations;
+  denominator = asked .denominator;
+  edges = asked .edges;
+  limits = asked .limits;
+  actions = λ l h a low high. asked .actions l h a low high .edges;
+}

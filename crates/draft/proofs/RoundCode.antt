@@ -10,7 +10,6 @@ use borrow.Author.Tests.{eq-eqb, ne-eqb}
 use lib.ListN.{getD, set, length, replicate, length-set, length-replicate}
 use lib.Seq.{set-getD}
 use Rattle.model.specs.Fields.{weightOf}
-use Rattle.model.specs.Index.{Kept}
 use Rattle.model.specs.declared.index.Index.{Index}
 use Rattle.table.specs.Fields.{locationOf}
 use Rattle.table.specs.Scan.{edgesAt}
@@ -18,7 +17,7 @@ use Rattle.drafting.specs.Words.{whole}
 use Rattle.drafting.specs.Rounds.{roundedUp}
 use Rattle.drafting.proofs.RoundLaws.{all-limited}
 use Rattle.draft.specs.Nodes.{frontAt, frontsOf}
-use Rattle.draft.specs.Asked.{weightsFrom, ActionAsked, ModelAsked, Located, ValuesFit, EndsFit}
+use Rattle.draft.specs.Asked.{weightsFrom, EdgesAsked, RoundsAsked, Located, ValuesFit, EndsFit}
 use Rattle.draft.specs.Values.{sumFrom, largestFrom, valueAt, beginOf, roundBelow, roundsOf, valuesOf}
 use Rattle.draft.proofs.ValueLaws.{below-past}
 use Rattle.draft.proofs.NodeLaws.{fronts-length, fronts-at}
@@ -34,11 +33,11 @@ unfolding beginOf
 begin-limited fit zero = zero-le
 begin-limited fit (suc n) = fit .limits n
 
--- what is asked of an action of a location
-pub action-asked : {m : Kept} {l a : ℕ} → ModelAsked m → l < m .index .locations → getD (m .index .actions) l 0 ≤ a →
-    a < getD (m .index .actions) (l + 1) 0 → ActionAsked m a × (a < 32)
-action-asked {m} {l} {a} asked here from to =
-    let next : getD (m .index .actions) (l + 1) 0 ≡ getD (m .index .actions) (suc l) 0 = ap (λ k. getD (m .index .actions) k 0) (add-one l) in
+-- what is asked of the edges of an action of a location
+pub edges-asked : {x : Index} {es : List ℕ} {l a : ℕ} → RoundsAsked x es → l < x .locations → getD (x .actions) l 0 ≤ a →
+    a < getD (x .actions) (l + 1) 0 → EdgesAsked x es a × (a < 32)
+edges-asked {x} {es} {l} {a} asked here from to =
+    let next : getD (x .actions) (l + 1) 0 ≡ getD (x .actions) (suc l) 0 = ap (λ k. getD (x .actions) k 0) (add-one l) in
     let few = asked .limits l here in
     (asked .actions l here a from (omega arith), omega arith)
 

@@ -11,7 +11,7 @@ use Rattle.drafting.specs.Words.{whole, word}
 use Rattle.draft.specs.Nodes.{frontAt, HasNode}
 use Rattle.draft.specs.Asked.{EndsFit}
 use Rattle.draft.specs.Values.{beginOf}
-use Rattle.draft.specs.Writing.{rowWord, nodeText, nodesText, draftText, written, LengthOf, Finishes}
+use Rattle.draft.specs.Writing.{rowWord, nodeText, nodesText, draftText, written, LengthOf, Finishes, TextFits, NodeFits}
 use Rattle.draft.proofs.NodeLaws.{front-length}
 
 -- ---- words put into a list
@@ -113,6 +113,16 @@ module _ (codes : List ℕ) (from to : ℕ) (room : to ≤ length codes) where
       sym (map-at rowWord (slice from to codes) (p - from) (omega arith) ∙ ap rowWord code)
 
 -- ---- the words of nodes
+
+-- what holds of all nodes holds of one
+pub node-fits : {nodes vs codes ends : List ℕ} {count : ℕ} → TextFits nodes vs codes ends count → (n : ℕ) → n < count → NodeFits nodes vs codes ends n
+node-fits t n h = record {
+  few = N.lt-of-lt-of-le h (t .stores .holds .limit);
+  node = t .stores .holds .nodes n h;
+  fits = t .stores .fits;
+  rises = t .stores .rises n h;
+  values = t .values;
+}
 
 module _ (nodes vs codes ends : List ℕ) where
   pub node-length : (n : ℕ) → HasNode nodes n → EndsFit codes ends →

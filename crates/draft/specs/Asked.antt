@@ -8,6 +8,7 @@ use Rattle.zone.specs.Stores.{zoneAt}
 use Rattle.model.specs.Fields.{landsAt, weightOf}
 use Rattle.model.specs.Scan.{guardsAt}
 use Rattle.model.specs.Index.{Kept, StoresFit}
+use Rattle.model.specs.declared.index.Index.{Index}
 use Rattle.table.specs.Fields.{locationOf}
 use Rattle.table.specs.Scan.{edgesAt}
 use Rattle.drafting.specs.Words.{whole}
@@ -22,14 +23,17 @@ unfoldable pub weightsFrom : List ℕ → ℕ → ℕ → ℕ
 weightsFrom es zero e = 0
 weightsFrom es (suc n) e = weightOf (getD es e 0) + weightsFrom es n (suc e)
 
--- the guard of the action a can be tightened, its edges are at most four and end where they begin or later, they land at locations that exist, and
--- their weights come to D at most
+-- the edges of the action a are at most four and end where they begin or later, and their weights come to D at most
+pub record EdgesAsked (x : Index) (es : List ℕ) (a : ℕ) : Type 0 where
+  pub few : edgesAt x a ≤ 4
+  pub rises : getD (x .edges) a 0 ≤ getD (x .edges) (suc a) 0
+  pub weights : weightsFrom es (edgesAt x a) (getD (x .edges) a 0) ≤ x .denominator
+
+-- so are they, the guard of the action can be tightened, and its edges land at locations that exist
 pub record ActionAsked (m : Kept) (a : ℕ) : Type 0 where
   pub guard : Tightens 2 (zoneAt (m .zones) (guardsAt + a))
-  pub few : edgesAt (m .index) a ≤ 4
-  pub rises : getD (m .index .edges) a 0 ≤ getD (m .index .edges) (suc a) 0
+  pub edges : EdgesAsked (m .index) (m .edges) a
   pub lands : (e : ℕ) → getD (m .index .edges) a 0 ≤ e → e < getD (m .index .edges) (suc a) 0 → landsAt (getD (m .edges) e 0) < m .index .locations
-  pub weights : weightsFrom (m .edges) (edgesAt (m .index) a) (getD (m .index .edges) a 0) ≤ m .index .denominator
 
 -- the model's stores have room, its numbers are within their limits, and so are the actions of its locations
 pub record ModelAsked (m : Kept) : Type 0 where
@@ -41,6 +45,15 @@ pub record ModelAsked (m : Kept) : Type 0 where
   pub invariants : (l : ℕ) → l < m .index .locations → Tightens 3 (zoneAt (m .zones) l)
   pub limits : (l : ℕ) → l < m .index .locations → getD (m .index .actions) (suc l) 0 ≤ 32
   pub actions : (l : ℕ) → l < m .index .locations → (a : ℕ) → getD (m .index .actions) l 0 ≤ a → a < getD (m .index .actions) (suc l) 0 → ActionAsked m a
+
+-- what the rounds ask of it, which is nothing of its zones
+pub record RoundsAsked (x : Index) (es : List ℕ) : Type 0 where
+  pub store : 128 ≤ length es
+  pub locations : x .locations ≤ 16
+  pub denominator : 1 ≤ x .denominator
+  pub edges : (a : ℕ) → getD (x .edges) a 0 ≤ 128
+  pub limits : (l : ℕ) → l < x .locations → getD (x .actions) (suc l) 0 ≤ 32
+  pub actions : (l : ℕ) → l < x .locations → (a : ℕ) → getD (x .actions) l 0 ≤ a → a < getD (x .actions) (suc l) 0 → EdgesAsked x es a
 
 -- ---- of the stores
 

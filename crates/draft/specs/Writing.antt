@@ -8,7 +8,7 @@ use lib.ListN.{getD, length, take, drop}
 use lib.Seq.{slice}
 use Rattle.zone.specs.Checks.{Answer, refused, accepted}
 use Rattle.drafting.specs.Words.{whole, word}
-use Rattle.draft.specs.Nodes.{frontAt, Holds}
+use Rattle.draft.specs.Nodes.{frontAt, HasNode, Holds}
 use Rattle.draft.specs.Values.{beginOf}
 use Rattle.draft.specs.Asked.{ValuesFit, EndsFit}
 use Rattle.draft.specs.declared.nodes.Stop.the-variants as stop
@@ -59,4 +59,12 @@ pub record FinishesAfter (nodes codes ends : List ℕ) (x : Extent) : Type 0 whe
 -- with values
 pub record TextFits (nodes vs codes ends : List ℕ) (count : ℕ) : Type 0 where
   pub stores : Finishes nodes codes ends count
+  pub values : ValuesFit vs
+
+-- of the node n alone
+pub record NodeFits (nodes vs codes ends : List ℕ) (n : ℕ) : Type 0 where
+  pub few : n < 64
+  pub node : HasNode nodes n
+  pub fits : EndsFit codes ends
+  pub rises : beginOf ends n ≤ getD ends n 0
   pub values : ValuesFit vs

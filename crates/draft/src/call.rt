@@ -3,11 +3,10 @@ ghost use mathlib.Core.Path.{_≡_};
 ghost use Prim.Native.Nat.{ℕ, min};
 ghost use lib.ListN.{length};
 ghost use Rattle.model.specs.Reading.{modelAnswer};
-ghost use Rattle.model.specs.Index.{keep};
 ghost use Rattle.judge.specs.Deciding.{HandsOn};
 ghost use Rattle.drafting.specs.Drafting.{lengthOf, lentAfter, Drafted, CertifiesWritten};
 ghost use Rattle.draft.specs.Answers.{draftAnswer};
-ghost use Rattle.draft.specs.Asked.{ModelAsked, Located};
+ghost use Rattle.draft.specs.Asked.{RoundsAsked, Located};
 ghost use Rattle.draft.specs.Nodes.{frontsOf};
 ghost use Rattle.draft.specs.Exploration.{stopAnswer};
 ghost use Rattle.draft.specs.Values.{valuesOf};
@@ -76,7 +75,6 @@ pub(crate) fn counted(rounds: u64) -> u64
 pub(crate) fn finish(
     index: Index,
     edges: &[u32],
-    zones: &[i32],
     nodes: &[u32],
     codes: &[u8],
     ends: &[usize],
@@ -84,7 +82,7 @@ pub(crate) fn finish(
     rounds: u64,
     lent: &mut [u32],
 ) -> DraftAnswer
-    requires { ⌜ ModelAsked (keep index (now edges) (now zones)) × Located (index .locations) (frontsOf (now nodes) count) × Finishes (now nodes) (now codes) (now ends) count ⌝ }
+    requires { ⌜ RoundsAsked index (now edges) × Located (index .locations) (frontsOf (now nodes) count) × Finishes (now nodes) (now codes) (now ends) count ⌝ }
     ensures answers { λ r. ⌜ draftAnswer r ≡ lengthOf (lastAnswer (length (now (lent .entry))) (draftText (now (nodes .entry)) (valuesOf index (now (edges .entry)) (now (nodes .entry)) (now (codes .entry)) (now (ends .entry)) count (min rounds 1000)) (now (codes .entry)) (now (ends .entry)) count)) ⌝ }
     ensures writes { λ r. ⌜ now (lent .exit) ≡ lentAfter (lastAnswer (length (now (lent .entry))) (draftText (now (nodes .entry)) (valuesOf index (now (edges .entry)) (now (nodes .entry)) (now (codes .entry)) (now (ends .entry)) count (min rounds 1000)) (now (codes .entry)) (now (ends .entry)) count)) (now (lent .entry)) ⌝ }
 {
@@ -92,16 +90,7 @@ pub(crate) fn finish(
     if lent.len() < length {
         return DraftAnswer::TooFewWords;
     }
-    let values = rounds::values_after(
-        index,
-        edges,
-        zones,
-        nodes,
-        codes,
-        ends,
-        count,
-        counted(rounds),
-    );
+    let values = rounds::values_after(index, edges, nodes, codes, ends, count, counted(rounds));
     let list = values.list;
     write::write_draft(lent, nodes, &list, codes, ends, count);
     DraftAnswer::Drafted(length)
@@ -144,7 +133,6 @@ pub fn draft(model: &[u32], rounds: u64, lent: &mut [u32]) -> DraftAnswer
     finish(
         index,
         &edges,
-        &zones,
         &nodes,
         &codes,
         &ends,

@@ -2,11 +2,10 @@
 ghost use mathlib.Core.Path.{_≡_};
 ghost use Prim.Native.Nat.{_+_, _-_, _*_, _≤_, _<_, max};
 ghost use lib.ListN.{getD, length};
-ghost use Rattle.model.specs.Index.{keep};
 ghost use Rattle.drafting.specs.Rounds.{roundedUp};
 ghost use Rattle.drafting.specs.Words.{whole};
 ghost use Rattle.draft.specs.Nodes.{frontsOf, Holds};
-ghost use Rattle.draft.specs.Asked.{weightsFrom, ModelAsked, Located, ValuesFit, EndsFit};
+ghost use Rattle.draft.specs.Asked.{weightsFrom, RoundsAsked, Located, ValuesFit, EndsFit};
 ghost use Rattle.draft.specs.Values.{sumFrom, largestFrom, beginOf, roundBelow, valuesOf};
 use crate::explore;
 use crate::nodes;
@@ -69,13 +68,12 @@ pub(crate) fn row_sum(
 pub(crate) fn largest(
     index: Index,
     edges: &[u32],
-    zones: &[i32],
     codes: &[u8],
     values: &[u32],
     l: usize,
     at: usize,
 ) -> u32
-    requires { ⌜ ModelAsked (keep index (now edges) (now zones)) × (l < index .locations) × (at + 128 ≤ length (now codes)) × ValuesFit (now values) ⌝ }
+    requires { ⌜ RoundsAsked index (now edges) × (l < index .locations) × (at + 128 ≤ length (now codes)) × ValuesFit (now values) ⌝ }
     ensures { λ r. ⌜ (r ≡ largestFrom (now (edges .entry)) (now (codes .entry)) (now (values .entry)) index (getD (index .actions) (l + 1) 0 - getD (index .actions) l 0) (getD (index .actions) l 0) at 0) × (r ≤ whole) ⌝ }
 {
     let mut best: u32 = 0;
@@ -109,14 +107,13 @@ pub(crate) fn begin_of(ends: &[usize], n: usize) -> usize
 pub(crate) fn round(
     index: Index,
     edges: &[u32],
-    zones: &[i32],
     nodes: &[u32],
     codes: &[u8],
     ends: &[usize],
     count: usize,
     values: Values,
 ) -> Values
-    requires { ⌜ ModelAsked (keep index (now edges) (now zones)) × Holds (now nodes) count × Located (index .locations) (frontsOf (now nodes) count) × EndsFit (now codes) (now ends) × ValuesFit (values .list) ⌝ }
+    requires { ⌜ RoundsAsked index (now edges) × Holds (now nodes) count × Located (index .locations) (frontsOf (now nodes) count) × EndsFit (now codes) (now ends) × ValuesFit (values .list) ⌝ }
     ensures { λ r. ⌜ (r .list ≡ roundBelow index (now (edges .entry)) (now (nodes .entry)) (now (codes .entry)) (now (ends .entry)) count (values .list)) × ValuesFit (r .list) ⌝ }
 {
     let old = values.list;
@@ -125,7 +122,7 @@ pub(crate) fn round(
         let l = nodes::location_at(nodes, n) as usize;
         if !index.targets[l] {
             let at = begin_of(ends, n);
-            list[n] = largest(index, edges, zones, codes, &old, l, at);
+            list[n] = largest(index, edges, codes, &old, l, at);
         }
     }
     Values { list }
@@ -135,21 +132,20 @@ pub(crate) fn round(
 pub(crate) fn values_after(
     index: Index,
     edges: &[u32],
-    zones: &[i32],
     nodes: &[u32],
     codes: &[u8],
     ends: &[usize],
     count: usize,
     rounds: u64,
 ) -> Values
-    requires { ⌜ ModelAsked (keep index (now edges) (now zones)) × Holds (now nodes) count × Located (index .locations) (frontsOf (now nodes) count) × EndsFit (now codes) (now ends) ⌝ }
+    requires { ⌜ RoundsAsked index (now edges) × Holds (now nodes) count × Located (index .locations) (frontsOf (now nodes) count) × EndsFit (now codes) (now ends) ⌝ }
     ensures { λ r. ⌜ (r .list ≡ valuesOf index (now (edges .entry)) (now (nodes .entry)) (now (codes .entry)) (now (ends .entry)) count rounds) × ValuesFit (r .list) ⌝ }
 {
     let mut values = Values {
         list: [WHOLE; VALUES],
     };
     for _n in 0..rounds {
-        values = round(index, edges, zones, nodes, codes, ends, count, values);
+        values = round(index, edges, nodes, codes, ends, count, values);
     }
     values
 }

@@ -5,7 +5,7 @@ ghost use Prim.Native.Nat.{_+_, _-_, _*_, _≤_, _<_};
 ghost use lib.ListN.{length, drop};
 ghost use lib.Seq.{slice};
 ghost use Rattle.draft.specs.Nodes.{frontAt, HasNode};
-ghost use Rattle.draft.specs.Writing.{rowWord, nodeText, nodesText, draftText, written, LengthOf, Finishes, TextFits};
+ghost use Rattle.draft.specs.Writing.{rowWord, nodeText, nodesText, draftText, written, LengthOf, Finishes, TextFits, NodeFits};
 use crate::explore;
 use crate::nodes::NODE_SLOT;
 use crate::rounds;
@@ -52,9 +52,8 @@ pub(crate) fn write_node(
     codes: &[u8],
     ends: &[usize],
     n: usize,
-    count: usize,
 ) -> usize
-    requires { ⌜ TextFits (now nodes) (now values) (now codes) (now ends) count × (n < count) × (at + length (nodeText (now nodes) (now values) (now codes) (now ends) n) ≤ length (now lent)) ⌝ }
+    requires { ⌜ NodeFits (now nodes) (now values) (now codes) (now ends) n × (at + length (nodeText (now nodes) (now values) (now codes) (now ends) n) ≤ length (now lent)) ⌝ }
     ensures ends { λ r. ⌜ r ≡ at + length (nodeText (now (nodes .entry)) (now (values .entry)) (now (codes .entry)) (now (ends .entry)) n) ⌝ }
     ensures writes { λ _. ⌜ now (lent .exit) ≡ written (now (lent .entry)) at (nodeText (now (nodes .entry)) (now (values .entry)) (now (codes .entry)) (now (ends .entry)) n) ⌝ }
 {
@@ -82,7 +81,7 @@ pub(crate) fn write_nodes(
 {
     let mut at: usize = 1;
     for n in 0..count {
-        at = write_node(lent, at, nodes, values, codes, ends, n, count);
+        at = write_node(lent, at, nodes, values, codes, ends, n);
     }
     at
 }

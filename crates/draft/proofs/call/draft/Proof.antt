@@ -10,6 +10,7 @@ use Rattle.model.specs.Index.{StoresFit}
 use Rattle.judge.proofs.Answering.{ModelAccepted}
 use Rattle.draft.proofs.ExploreCode.{stops}
 use Rattle.draft.proofs.ExploreNodes.{no-ends}
+use Rattle.draft.proofs.ModelLaws.{rounds-asked}
 use Rattle.draft.proofs.DraftCall.{refused-model, asked, start-asked, start-stops, first-located, explore-stops, finished}
 use Rattle.draft.proofs.call.draft.Statement.{statement}
 use Rattle.draft.proofs.call.draft.Tie as tie
@@ -108,17 +109,17 @@ returns-3 c =
 
 finish-requires : tie.Need-finish-requires
 finish-requires c κs =
-    let x = c .before .before .before .before .before .before .before .before .before .before .before in
+    let x = c .before .before .before .before .before .before .before .before .before .before in
     let t = told (placed x) in (
-      asked (words (read t)) (rounds (read t)) (lent (read t)) _ _ _ (model-accepted t),
+      rounds-asked (asked (words (read t)) (rounds (read t)) (lent (read t)) _ _ _ (model-accepted t)),
       x .explore .ensures .1 .0 .1,
-      x .explore .ensures .1 .1 .finishes (c .before .before .before .before .before .before .enum-told3 .given .1),
+      x .explore .ensures .1 .1 .finishes (c .before .before .before .before .before .enum-told3 .given .1),
     )
 
 returns-4 : tie.Need-returns-4
 returns-4 c =
     let f = c .before .before in
-    let l = f .before .before .before .before .before .before .before in
+    let l = f .before .before .before .before .before .before in
     let x = l .before .before .before .before .before in
     let s = placed x in
     let t = told s in
@@ -132,4 +133,4 @@ draft-spec =
     (tie.spec (λ c. search needs) (λ c. search needs) (λ c κs. search needs) (λ c. search needs) (λ c κs. search needs) returns (λ c. search needs)
     start-requires (λ c. search needs) (λ c κs. search needs) returns-2 (λ c. search needs) (λ c. search needs) (λ c. search needs)
     (λ c. search needs) (λ c. search needs) explore-requires (λ c. search needs) (λ c κs. search needs) returns-3 (λ c. search needs)
-    (λ c. search needs) (λ c. search needs) (λ c. search needs) (λ c. search needs) finish-requires (λ c. search needs) returns-4)
+    (λ c. search needs) (λ c. search needs) (λ c. search needs) finish-requires (λ c. search needs) returns-4)

@@ -57,7 +57,7 @@ loop-holds : tie.Need-loop-holds Inv-loop μ-loop
 unfolding edgesAt
 loop-holds c =
     let s = start (c .before .before) in
-    let few = s .pre .3 .few in
+    let few = s .pre .3 .edges .few in
     turns-begin _ 1 4 _ _ (s .pre .4) (omega arith) refl
 
 successor-requires : tie.Need-successor-requires Inv-loop μ-loop

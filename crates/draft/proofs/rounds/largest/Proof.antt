@@ -8,19 +8,18 @@ use native.Mathlib.Numerals.{add-one}
 use native.Mathlib.Omega.{arith}
 use borrow.Author.Needs.{needs}
 use lib.ListN.{length, getD}
-use Rattle.model.specs.Index.{keep}
 use Rattle.table.specs.Scan.{edgesAt}
 use Rattle.drafting.specs.Words.{whole}
-use Rattle.draft.specs.Asked.{ActionAsked}
-use Rattle.draft.proofs.RoundCode.{action-asked, LargestTo, largest-begin, largest-place, largest-blocked, largest-next, largest-end}
+use Rattle.draft.specs.Asked.{EdgesAsked}
+use Rattle.draft.proofs.RoundCode.{edges-asked, LargestTo, largest-begin, largest-place, largest-blocked, largest-next, largest-end}
 use Rattle.draft.proofs.rounds.largest.Statement.{statement}
 use Rattle.draft.proofs.rounds.largest.Tie as tie
 
 abbrev Inv-loop : tie.InvT-loop
-Inv-loop edges zones codes values l at index best₀ code₀ a₀ a-end best code a = LargestTo edges codes values index a₀ a-end at best code a
+Inv-loop edges codes values l at index best₀ code₀ a₀ a-end best code a = LargestTo edges codes values index a₀ a-end at best code a
 
 abbrev μ-loop : tie.MeasureT-loop
-μ-loop edges zones codes values l at index best₀ code₀ a₀ a-end best code a = a-end - a
+μ-loop edges codes values l at index best₀ code₀ a₀ a-end best code a = a-end - a
 
 abbrev Start : Type 0
 Start = tie.Start Inv-loop μ-loop
@@ -31,10 +30,9 @@ Turn = tie.In-loop Inv-loop μ-loop
 abbrev start : Turn → Start
 start c = c .before .before .before .before .before .before .before
 
--- the action of a turn
-asked : (c : Turn) →
-    ActionAsked (keep (start c .args .t1) (start c .args .edges .now) (start c .args .zones .now)) (c .before .loop .a) × (c .before .loop .a < 32)
-asked c = action-asked (start c .pre .0) (start c .pre .1) (c .before .loop .inv .begun) (c .loop-test .taken)
+-- the edges of the action of a turn
+asked : (c : Turn) → EdgesAsked (start c .args .t1) (start c .args .edges .now) (c .before .loop .a) × (c .before .loop .a < 32)
+asked c = edges-asked (start c .pre .0) (start c .pre .1) (c .before .loop .inv .begun) (c .loop-test .taken)
 
 -- its codes are there
 place : (c : Turn) → c .before .loop .code + 4 ≤ length (start c .args .codes .now)
@@ -79,7 +77,7 @@ row-sum-requires c κs =
     let t = c .before .before .before .before in
     let pre = start t .pre in
     let e = pre .0 .edges (t .before .loop .a + 1) in
-    let room = pre .0 .stores .edges in
+    let room = pre .0 .store in
     (omega arith, few t, place t, pre .3)
 
 rounded-up-requires : tie.Need-rounded-up-requires Inv-loop μ-loop

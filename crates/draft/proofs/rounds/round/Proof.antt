@@ -10,10 +10,10 @@ use Rattle.draft.proofs.rounds.round.Statement.{statement}
 use Rattle.draft.proofs.rounds.round.Tie as tie
 
 abbrev Inv-loop : tie.InvT-loop
-Inv-loop edges zones nodes codes ends count index old list₀ n₀ list n = RoundTo index edges nodes codes ends count old list n
+Inv-loop edges nodes codes ends count index old list₀ n₀ list n = RoundTo index edges nodes codes ends count old list n
 
 abbrev μ-loop : tie.MeasureT-loop
-μ-loop edges zones nodes codes ends count index old list₀ n₀ list n = count - n
+μ-loop edges nodes codes ends count index old list₀ n₀ list n = count - n
 
 abbrev Start : Type 0
 Start = tie.Start Inv-loop μ-loop

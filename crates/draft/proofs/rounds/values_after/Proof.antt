@@ -6,10 +6,10 @@ use Rattle.draft.proofs.rounds.values_after.Statement.{statement}
 use Rattle.draft.proofs.rounds.values_after.Tie as tie
 
 abbrev Inv-loop : tie.InvT-loop
-Inv-loop index edges zones nodes codes ends count rounds values₀ n₀ values n = RoundsTo index edges nodes codes ends count rounds (values .list) n
+Inv-loop index edges nodes codes ends count rounds values₀ n₀ values n = RoundsTo index edges nodes codes ends count rounds (values .list) n
 
 abbrev μ-loop : tie.MeasureT-loop
-μ-loop index edges zones nodes codes ends count rounds values₀ n₀ values n = rounds - n
+μ-loop index edges nodes codes ends count rounds values₀ n₀ values n = rounds - n
 
 round-requires : tie.Need-round-requires Inv-loop μ-loop
 round-requires c κs =

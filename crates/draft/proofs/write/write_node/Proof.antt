@@ -14,7 +14,7 @@ use Rattle.draft.proofs.write.write_node.Tie as tie
 -- ---- at the start
 
 node : (s : tie.Start) → HasNode (s .args .nodes .now) (s .args .n)
-node s = s .pre .0 .stores .holds .nodes _ (s .pre .1)
+node s = s .pre .0 .node
 
 -- how many words there are, and that they have room
 size : (s : tie.Start) →
@@ -22,13 +22,13 @@ size : (s : tie.Start) →
     let ends = a .ends .now in
     length (nodeText (a .nodes .now) (a .values .now) (a .codes .now) ends (a .n))
     ≡ getD (a .nodes .now) (a .n * 27) 0 + 1 + (getD ends (a .n) 0 - beginOf ends (a .n))
-size s = node-length _ _ _ _ _ (node s) (s .pre .0 .stores .fits)
+size s = node-length _ _ _ _ _ (node s) (s .pre .0 .fits)
 
 room : (s : tie.Start) →
     let a = s .args in
     let ends = a .ends .now in
     a .at + (getD (a .nodes .now) (a .n * 27) 0 + 1 + (getD ends (a .n) 0 - beginOf ends (a .n))) ≤ length (a .lent .now)
-room s = rw (size s) at (s .pre .2)
+room s = rw (size s) at (s .pre .1)
 
 -- ---- behind the front words, and behind those of the rows
 
@@ -39,7 +39,7 @@ abbrev start : Front → tie.Start
 start c = c .before .before .before .before .before .before .before
 
 same : (c : Front) → length (c .write-front .last .0) ≡ length (start c .args .lent .now)
-same c = let s = start c in front-put _ _ _ _ _ _ _ (node s) (s .pre .2) (c .write-front .ensures) .size
+same c = let s = start c in front-put _ _ _ _ _ _ _ (node s) (s .pre .1) (c .write-front .ensures) .size
 
 abbrev Rows : Type 0
 Rows = tie.After-slice-known3
@@ -54,13 +54,13 @@ put : (c : Rows) →
     × (last ≡ written (a .lent .now) (a .at) (nodeText (a .nodes .now) (a .values .now) (a .codes .now) (a .ends .now) (a .n)))
 put c =
     let s = start (front c) in
-    node-put _ _ _ _ _ _ _ (node s) (s .pre .2) (front c .write-front .ensures) (c .before .before .before .before .before .begin-of .ensures) _
+    node-put _ _ _ _ _ _ _ (node s) (s .pre .1) (front c .write-front .ensures) (c .before .before .before .before .before .begin-of .ensures) _
     (c .before .before .write-rows .ensures)
 
 write-front-requires : tie.Need-write-front-requires
 write-front-requires c κs =
     let s = c .before .before .before .before .before .before in
-    (node s, front-room _ _ _ _ (s .args .lent .now) _ _ (node s) (s .pre .2))
+    (node s, front-room _ _ _ _ (s .args .lent .now) _ _ (node s) (s .pre .1))
 
 cast-value : tie.Need-cast-value
 cast-value c = let few = node (start (c .before .before .before)) .few in omega arith
@@ -92,12 +92,11 @@ write-rows-requires c κs =
     let f = c .before .before .before .before .before .before .before in
     let s = start f in
     let begins = c .before .before .begin-of .ensures in
-    let stores = s .pre .0 .stores in
-    let limit = stores .fits .limits (s .args .n) in
-    let codes = stores .fits .codes in (
-      rw begins (stores .rises _ (s .pre .1)),
+    let limit = s .pre .0 .fits .limits (s .args .n) in
+    let codes = s .pre .0 .fits .codes in (
+      rw begins (s .pre .0 .rises),
       omega arith,
-      rows-room _ _ _ _ _ _ _ (node s) (s .pre .2) (f .write-front .ensures) begins (omega arith),
+      rows-room _ _ _ _ _ _ _ (node s) (s .pre .1) (f .write-front .ensures) begins (omega arith),
     )
 
 add-result : tie.Need-add-result
@@ -106,7 +105,7 @@ add-result c = let r = room (start (front c)) in search needs
 sub-result : tie.Need-sub-result
 sub-result c =
     let s = start (front c) in
-    rw (c .before .before .before .before .before .begin-of .ensures) (s .pre .0 .stores .rises _ (s .pre .1))
+    rw (c .before .before .before .before .before .begin-of .ensures) (s .pre .0 .rises)
 
 add-result-2 : tie.Need-add-result-2
 add-result-2 c =

@@ -1,7 +1,7 @@
 -- Proof of `write_nodes`: the nodes that are left, put behind those that are put, give all.
 use Prim.Native.Nat.{_-_}
 use borrow.Author.Needs.{needs}
-use Rattle.draft.proofs.WritingLaws.{NodesPut, nodes-begin, node-room, nodes-next, nodes-end}
+use Rattle.draft.proofs.WritingLaws.{node-fits, NodesPut, nodes-begin, node-room, nodes-next, nodes-end}
 use Rattle.draft.proofs.write.write_nodes.Statement.{statement}
 use Rattle.draft.proofs.write.write_nodes.Tie as tie
 
@@ -15,7 +15,7 @@ write-node-requires : tie.Need-write-node-requires Inv-loop μ-loop
 write-node-requires c κs =
     let t = c .before in
     let taken = t .loop-test .taken in
-    (t .before .before .before .before .before .before .before .pre .0, taken, node-room _ _ _ _ (t .before .loop .inv) taken)
+    (node-fits (t .before .before .before .before .before .before .before .pre .0) _ taken, node-room _ _ _ _ (t .before .loop .inv) taken)
 
 loop-again : tie.Need-loop-again Inv-loop μ-loop
 loop-again c =
