@@ -36,7 +36,6 @@ pub is-false : (c : Bool) → (T c → ⊥) → c ≡ false
 is-false true f = absurd (f tt)
 is-false false f = refl
 
--- both parts of a test that passes
 -- two tests that hold together are the same
 pub same-test : (s t : Bool) → (T s → T t) → (T t → T s) → s ≡ t
 same-test true true f g = refl
@@ -44,6 +43,7 @@ same-test true false f g = absurd (f tt)
 same-test false true f g = absurd (g tt)
 same-test false false f g = refl
 
+-- both parts of a test that passes
 pub left-true : (a b : Bool) → (a && b) ≡ true → a ≡ true
 left-true true b e = refl
 left-true false b e = e
