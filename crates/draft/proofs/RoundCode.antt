@@ -1,7 +1,7 @@
 -- The steps of the loops that work out the values of a draft, and that no value rises above V. Assumes nothing.
 use Prim.Native.Nat.{ℕ, zero, suc, _+_, _-_, _*_, _%_, _^_, _≤_, _<_, max, zero-le}
 use mathlib.Core.Path.{_≡_, refl, sym, ap, ap₂, _∙_}
-use mathlib.Core.Bool.{true, false}
+use mathlib.Core.Bool.{Bool, true, false}
 use mathlib.Core.List.{List, [], _∷_}
 use native.Mathlib.Nat as N
 use native.Mathlib.Numerals.{add-one}
@@ -9,6 +9,7 @@ use native.Mathlib.Omega.{arith}
 use borrow.Author.Tests.{eq-eqb, ne-eqb}
 use lib.ListN.{getD, set, length, replicate, length-set, length-replicate}
 use lib.Seq.{set-getD}
+use Rattle.zone.proofs.Bools.{true-false}
 use Rattle.model.specs.Fields.{weightOf}
 use Rattle.model.specs.declared.index.Index.{Index}
 use Rattle.table.specs.Fields.{locationOf}
@@ -159,38 +160,48 @@ located-at nodes count n l h =
     rw (fronts-at nodes count n h) at (l .at n there)
 
 module _ (x : Index) (es nodes codes ends : List ℕ) where
-  -- the values of the first n nodes are replaced
-  pub record RoundTo (count : ℕ) (vs next : List ℕ) (n : ℕ) : Type 0 where
+  -- the values of the first n nodes are replaced, and whether one has changed is known
+  pub record RoundTo (count : ℕ) (vs next : List ℕ) (changed : Bool) (n : ℕ) : Type 0 where
     pub few : n ≤ count
     pub fits : ValuesFit next
     pub is : next ≡ roundBelow x es nodes codes ends n vs
+    pub same : changed ≡ false → next ≡ vs
 
-  pub round-begin : (count : ℕ) (vs : List ℕ) → ValuesFit vs → RoundTo count vs vs 0
+  pub round-begin : (count : ℕ) (vs : List ℕ) → ValuesFit vs → RoundTo count vs vs false 0
   unfolding roundBelow
-  round-begin count vs fit = record { few = zero-le; fits = fit; is = refl }
+  round-begin count vs fit = record { few = zero-le; fits = fit; is = refl; same = λ _. refl }
 
-  pub round-target : {count : ℕ} {vs next : List ℕ} {n : ℕ} → RoundTo count vs next n → n < count → (l : ℕ) →
-      l ≡ locationOf (getD (frontAt nodes n) 0 0) → getD (x .targets) l false ≡ true → RoundTo count vs next (n + 1)
-  unfolding roundBelow valueAt
-  round-target {count} {vs} {next} {n} k h l here q =
-      let keeps : next ≡ set (roundBelow x es nodes codes ends n vs) n (getD vs n 0) =
-      k .is ∙ sym (set-getD (roundBelow x es nodes codes ends n vs) n 0) ∙ rw (below-past x es nodes codes ends n vs n (N.le-refl n)) in
-      record { few = omega arith; fits = k .fits; is = rw (add-one n, ← here, q) keeps }
+  module _ {count : ℕ} {vs next : List ℕ} {changed : Bool} {n : ℕ} (k : RoundTo count vs next changed n) where
+    module _ (h : n < count) (l : ℕ) (here : l ≡ locationOf (getD (frontAt nodes n) 0 0)) where
+      -- a value that is as before stays in its place
+      keeps : next ≡ set (roundBelow x es nodes codes ends n vs) n (getD vs n 0)
+      keeps = k .is ∙ sym (set-getD (roundBelow x es nodes codes ends n vs) n 0) ∙ rw (below-past x es nodes codes ends n vs n (N.le-refl n))
 
-  pub round-next : {count : ℕ} {vs next : List ℕ} {n : ℕ} → RoundTo count vs next n → n < count → (l : ℕ) →
-      l ≡ locationOf (getD (frontAt nodes n) 0 0) → getD (x .targets) l false ≡ false → (at v : ℕ) → at ≡ beginOf ends n →
-      v ≡ largestFrom es codes vs x (getD (x .actions) (l + 1) 0 - getD (x .actions) l 0) (getD (x .actions) l 0) at 0 → v ≤ whole →
-      RoundTo count vs (set next n v) (n + 1)
-  unfolding roundBelow valueAt
-  round-next {count} {vs} {next} {n} k h l here q at v begins is low =
-      record { few = omega arith; fits = set-fits n v (k .fits) low; is = rw (add-one n, ← here, q, ← begins, ← is, k .is) refl }
+      pub round-target : getD (x .targets) l false ≡ true → RoundTo count vs next changed (n + 1)
+      unfolding roundBelow valueAt
+      round-target q = record { few = omega arith; fits = k .fits; is = rw (add-one n, ← here, q) keeps; same = k .same }
 
-  pub round-end : {count : ℕ} {vs next : List ℕ} {n : ℕ} → RoundTo count vs next n → count ≤ n →
-      (next ≡ roundBelow x es nodes codes ends count vs) × ValuesFit next
-  round-end {count} {vs} {next} {n} k h =
-      let few = k .few in
-      let all : n ≡ count = omega arith in
-      (rw all at (k .is), k .fits)
+      module _ (q : getD (x .targets) l false ≡ false) (at v : ℕ) (begins : at ≡ beginOf ends n)
+          (is : v ≡ largestFrom es codes vs x (getD (x .actions) (l + 1) 0 - getD (x .actions) l 0) (getD (x .actions) l 0) at 0) where
+        pub round-same : v ≡ getD vs n 0 → RoundTo count vs next changed (n + 1)
+        unfolding roundBelow valueAt
+        round-same e =
+            record { few = omega arith; fits = k .fits; is = rw (add-one n, ← here, q, ← begins, ← is, e) keeps; same = k .same }
+
+        pub round-next : v ≤ whole → RoundTo count vs (set next n v) true (n + 1)
+        unfolding roundBelow valueAt
+        round-next low = record {
+          few = omega arith;
+          fits = set-fits n v (k .fits) low;
+          is = rw (add-one n, ← here, q, ← begins, ← is, k .is) refl;
+          same = λ e. true-false e;
+        }
+
+    pub round-end : count ≤ n → (next ≡ roundBelow x es nodes codes ends count vs) × ValuesFit next × (changed ≡ false → next ≡ vs)
+    round-end h =
+        let few = k .few in
+        let all : n ≡ count = omega arith in
+        (rw all at (k .is), k .fits, k .same)
 
   -- ---- rounds
 
@@ -217,3 +228,14 @@ module _ (x : Index) (es nodes codes ends : List ℕ) where
       (vs ≡ valuesOf x es nodes codes ends count rounds) × ValuesFit vs
   unfolding roundsOf
   rounds-end {count} {rounds} {vs} {n} k h = let none : rounds - n ≡ 0 = omega arith in (rw none at (k .rest), k .fits)
+
+  -- behind a round that changes no value, no later one does
+  still : (count : ℕ) (vs : List ℕ) → roundBelow x es nodes codes ends count vs ≡ vs → (n : ℕ) → roundsOf x es nodes codes ends count n vs ≡ vs
+  unfolding roundsOf
+  still count vs h zero = refl
+  still count vs h (suc n) = rw h (still count vs h n)
+
+  pub rounds-still : {count rounds : ℕ} {vs : List ℕ} {n : ℕ} → RoundsTo count rounds vs n → (us : List ℕ) →
+      us ≡ roundBelow x es nodes codes ends count vs → us ≡ vs → (us ≡ valuesOf x es nodes codes ends count rounds) × ValuesFit us
+  rounds-still {count} {rounds} {vs} {n} k us is same =
+      (same ∙ sym (still count vs (sym is ∙ same) (rounds - n)) ∙ k .rest, rw same (k .fits))

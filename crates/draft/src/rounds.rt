@@ -1,5 +1,6 @@
 // The values of a draft, round by round, from the codes of its rows.
 ghost use mathlib.Core.Path.{_≡_};
+ghost use mathlib.Core.Bool.{false};
 ghost use Prim.Native.Nat.{_+_, _-_, _*_, _≤_, _<_, max};
 ghost use lib.ListN.{getD, length};
 ghost use Rattle.drafting.specs.Rounds.{roundedUp};
@@ -21,6 +22,12 @@ pub(crate) const VALUES: usize = 128;
 // The values, by the numbers that codes have.
 pub(crate) struct Values {
     pub list: [u32; 128],
+}
+
+// The values after a round, and whether one of them has changed in it.
+pub(crate) struct Rounded {
+    pub values: Values,
+    pub changed: bool,
 }
 
 // A sum over D, rounded up.
@@ -112,23 +119,29 @@ pub(crate) fn round(
     ends: &[usize],
     count: usize,
     values: Values,
-) -> Values
+) -> Rounded
     requires { ⌜ RoundsAsked index (now edges) × Holds (now nodes) count × Located (index .locations) (frontsOf (now nodes) count) × EndsFit (now codes) (now ends) × ValuesFit (values .list) ⌝ }
-    ensures { λ r. ⌜ (r .list ≡ roundBelow index (now (edges .entry)) (now (nodes .entry)) (now (codes .entry)) (now (ends .entry)) count (values .list)) × ValuesFit (r .list) ⌝ }
+    ensures { λ r. ⌜ (r .values .list ≡ roundBelow index (now (edges .entry)) (now (nodes .entry)) (now (codes .entry)) (now (ends .entry)) count (values .list)) × ValuesFit (r .values .list) × ((r .changed ≡ false) → r .values .list ≡ values .list) ⌝ }
 {
     let old = values.list;
     let mut list = values.list;
+    let mut changed = false;
     for n in 0..count {
         let l = nodes::location_at(nodes, n) as usize;
         if !index.targets[l] {
             let at = begin_of(ends, n);
-            list[n] = largest(index, edges, codes, &old, l, at);
+            let v = largest(index, edges, codes, &old, l, at);
+            if v != old[n] {
+                list[n] = v;
+                changed = true;
+            }
         }
     }
-    Values { list }
+    let values = Values { list };
+    Rounded { values, changed }
 }
 
-// The values after so many rounds; every one begins at V.
+// The values after so many rounds; every one begins at V. Behind a round that changes none, no later one does.
 pub(crate) fn values_after(
     index: Index,
     edges: &[u32],
@@ -145,7 +158,11 @@ pub(crate) fn values_after(
         list: [WHOLE; VALUES],
     };
     for _n in 0..rounds {
-        values = round(index, edges, nodes, codes, ends, count, values);
+        let next = round(index, edges, nodes, codes, ends, count, values);
+        values = next.values;
+        if !next.changed {
+            return values;
+        }
     }
     values
 }

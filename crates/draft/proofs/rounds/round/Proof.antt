@@ -1,19 +1,19 @@
--- Proof of `round`: the values of the nodes so far are replaced, each by what the old ones give.
+-- Proof of `round`: the values of the nodes so far are replaced, each by what the old ones give; those that it gives again are left as they are.
 use Prim.Native.Nat.{_-_}
 use mathlib.Core.Path.{sym}
 use mathlib.Core.Logic.{⊎-elim}
 use native.Mathlib.Omega.{arith}
 use borrow.Author.Needs.{needs}
 use borrow.Author.Tests.{not-true, not-false}
-use Rattle.draft.proofs.RoundCode.{begin-limited, located-at, RoundTo, round-begin, round-target, round-next, round-end}
+use Rattle.draft.proofs.RoundCode.{begin-limited, located-at, RoundTo, round-begin, round-target, round-same, round-next, round-end}
 use Rattle.draft.proofs.rounds.round.Statement.{statement}
 use Rattle.draft.proofs.rounds.round.Tie as tie
 
 abbrev Inv-loop : tie.InvT-loop
-Inv-loop edges nodes codes ends count index old list₀ n₀ list n = RoundTo index edges nodes codes ends count old list n
+Inv-loop edges nodes codes ends count index old list₀ changed₀ n₀ list changed n = RoundTo index edges nodes codes ends count old list changed n
 
 abbrev μ-loop : tie.MeasureT-loop
-μ-loop edges nodes codes ends count index old list₀ n₀ list n = count - n
+μ-loop edges nodes codes ends count index old list₀ changed₀ n₀ list changed n = count - n
 
 abbrev Start : Type 0
 Start = tie.Start Inv-loop μ-loop
@@ -57,9 +57,16 @@ largest-requires c κs =
       pre .4,
     )
 
+array-read-if2 : tie.Need-array-read-if2 Inv-loop μ-loop
+array-read-if2 c =
+    let t = c .before .before .before .before .before .before in
+    let few = start t .pre .1 .limit in
+    let taken = t .loop-test .taken in
+    omega arith
+
 array-write-list : tie.Need-array-write-list Inv-loop μ-loop
 array-write-list c =
-    let t = c .before .before .before .before .before .before in
+    let t = c .before .before .before .before .before .before .before in
     let few = start t .pre .1 .limit in
     let taken = t .loop-test .taken in
     omega arith
@@ -71,9 +78,13 @@ loop-again c =
     let here = c .before .before .location-at .ensures .0 in
     ⊎-elim
     (λ y.
-    rw (y .4)
+    rw (y .5, y .6)
     (round-next _ _ _ _ _ i (t .loop-test .taken) _ here (not-true _ (y .0 .taken)) _ _ (y .1 .ensures) (y .3 .ensures .0) (y .3 .ensures .1)))
-    (λ y. rw (y .1) (round-target _ _ _ _ _ i (t .loop-test .taken) _ here (not-false _ (y .0 .left))))
+    (⊎-elim
+    (λ y.
+    rw (y .5, y .6)
+    (round-same _ _ _ _ _ i (t .loop-test .taken) _ here (not-true _ (y .0 .taken)) _ _ (y .1 .ensures) (y .3 .ensures .0) (y .4 .left)))
+    (λ y. rw (y .1, y .2) (round-target _ _ _ _ _ i (t .loop-test .taken) _ here (not-false _ (y .0 .left)))))
     (c .if1 .came)
 
 returns : tie.Need-returns Inv-loop μ-loop
@@ -83,5 +94,5 @@ pub round-spec : {M : Type 1} → statement M
 round-spec =
     tie.close
     (tie.spec Inv-loop μ-loop (λ c. round-begin _ _ _ _ _ _ _ (c .before .before .before .before .before .before .pre .4)) location-at-requires cast-l
-    element-copy-out-if1 begin-of-requires slice-aggregate-largest largest-requires (λ c. search needs) array-write-list (λ c. search needs)
+    element-copy-out-if1 begin-of-requires slice-aggregate-largest largest-requires (λ c. search needs) array-read-if2 (λ c. search needs) array-write-list (λ c. search needs)
     (λ c. search needs) loop-again returns)
