@@ -174,40 +174,27 @@ same-lengths (x ∷ xs) (y ∷ ys) h = rw (same-lengths xs ys (λ e. h (ap suc e
     by true = refl
     by false = refl
 
--- whether a node has these words, so many as size
-module _ (nodes : List ℕ) (n size : ℕ) (ws : List ℕ) (h : HasNode nodes n) (fits : size ≤ length ws) where
-  pub other-size : (getD nodes (n * 27) 0 ≡ size → ⊥) → sameWords? (frontAt nodes n) (take size ws) ≡ false
-  other-size d =
-      let s = front-length nodes n h in
-      let t = length-take-le size ws fits in
-      same-lengths (frontAt nodes n) (take size ws) (λ e. d (omega arith))
+-- whether a node has these words
+module _ (nodes : List ℕ) (n : ℕ) (ws : List ℕ) (h : HasNode nodes n) where
+  pub other-size : (getD nodes (n * 27) 0 ≡ length ws → ⊥) → sameWords? (frontAt nodes n) ws ≡ false
+  other-size d = same-lengths (frontAt nodes n) ws (λ e. d (sym (front-length nodes n h) ∙ e))
 
-  module _ (e : getD nodes (n * 27) 0 ≡ size) (p : ℕ) where
-    front-size : length (frontAt nodes n) ≡ size
+  module _ (e : getD nodes (n * 27) 0 ≡ length ws) (p : ℕ) where
+    front-size : length (frontAt nodes n) ≡ length ws
     front-size = front-length nodes n h ∙ e
 
-    here : p < size → getD (frontAt nodes n) p 0 ≡ getD nodes (n * 27 + 1 + p) 0
+    here : p < length ws → getD (frontAt nodes n) p 0 ≡ getD nodes (n * 27 + 1 + p) 0
     here l = word-at nodes n p (omega arith)
 
-    pub word-same : p < size → getD nodes (n * 27 + 1 + p) 0 ≡ getD ws p 0 →
-        sameWords? (drop p (frontAt nodes n)) (drop p (take size ws)) ≡ sameWords? (drop (p + 1) (frontAt nodes n)) (drop (p + 1) (take size ws))
-    word-same l q =
-        let s = front-size in
-        let t = length-take-le size ws fits in
-        same-next (frontAt nodes n) (take size ws) p (omega arith) (omega arith) (here l ∙ q ∙ sym (getD-take size ws p 0 l))
+    pub word-same : p < length ws → getD nodes (n * 27 + 1 + p) 0 ≡ getD ws p 0 →
+        sameWords? (drop p (frontAt nodes n)) (drop p ws) ≡ sameWords? (drop (p + 1) (frontAt nodes n)) (drop (p + 1) ws)
+    word-same l q = let s = front-size in same-next (frontAt nodes n) ws p (omega arith) l (here l ∙ q)
 
-    pub word-not : p < size → (getD nodes (n * 27 + 1 + p) 0 ≡ getD ws p 0 → ⊥) →
-        sameWords? (drop p (frontAt nodes n)) (drop p (take size ws)) ≡ false
-    word-not l d =
-        let s = front-size in
-        let t = length-take-le size ws fits in
-        same-not (frontAt nodes n) (take size ws) p (omega arith) (omega arith) (λ q. d (sym (here l) ∙ q ∙ getD-take size ws p 0 l))
+    pub word-not : p < length ws → (getD nodes (n * 27 + 1 + p) 0 ≡ getD ws p 0 → ⊥) → sameWords? (drop p (frontAt nodes n)) (drop p ws) ≡ false
+    word-not l d = let s = front-size in same-not (frontAt nodes n) ws p (omega arith) l (λ q. d (sym (here l) ∙ q))
 
-    pub words-same : size ≤ p → sameWords? (drop p (frontAt nodes n)) (drop p (take size ws)) ≡ true
-    words-same l =
-        let s = front-size in
-        let t = length-take-le size ws fits in
-        same-end (frontAt nodes n) (take size ws) p (omega arith) (omega arith)
+    pub words-same : length ws ≤ p → sameWords? (drop p (frontAt nodes n)) (drop p ws) ≡ true
+    words-same l = let s = front-size in same-end (frontAt nodes n) ws p (omega arith) l
 
 -- ---- the first node with these words, from node n on
 module _ (ws nodes : List ℕ) (count n : ℕ) where

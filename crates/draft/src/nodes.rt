@@ -39,17 +39,16 @@ pub(crate) struct Placed {
 }
 
 // Whether a node has these front words.
-pub(crate) fn has_front(nodes: &[u32], n: usize, front: Front) -> bool
-    requires { ⌜ HasNode (now nodes) n × FrontFits front ⌝ }
-    ensures { λ r. ⌜ r ≡ sameWords? (frontAt (now (nodes .entry)) n) (take (front .size) (front .list)) ⌝ }
+pub(crate) fn has_front(nodes: &[u32], n: usize, words: &[u32]) -> bool
+    requires { ⌜ HasNode (now nodes) n ⌝ }
+    ensures { λ r. ⌜ r ≡ sameWords? (frontAt (now (nodes .entry)) n) (now (words .entry)) ⌝ }
 {
     let from = n * NODE_SLOT;
-    let size = front.size;
-    if nodes[from] as usize != size {
+    if nodes[from] as usize != words.len() {
         return false;
     }
-    for p in 0..size {
-        if nodes[from + 1 + p] != front.list[p] {
+    for p in 0..words.len() {
+        if nodes[from + 1 + p] != words[p] {
             return false;
         }
     }
@@ -57,12 +56,12 @@ pub(crate) fn has_front(nodes: &[u32], n: usize, front: Front) -> bool
 }
 
 // The first node with these front words: the same location and, since the bounds are tightened ones, the same valuations.
-pub(crate) fn find(nodes: &[u32], count: usize, front: Front) -> Known
-    requires { ⌜ Holds (now nodes) count × FrontFits front ⌝ }
-    ensures { λ r. ⌜ r ≡ knownFrom (take (front .size) (front .list)) 0 (frontsOf (now (nodes .entry)) count) ⌝ }
+pub(crate) fn find(nodes: &[u32], count: usize, words: &[u32]) -> Known
+    requires { ⌜ Holds (now nodes) count ⌝ }
+    ensures { λ r. ⌜ r ≡ knownFrom (now (words .entry)) 0 (frontsOf (now (nodes .entry)) count) ⌝ }
 {
     for n in 0..count {
-        if has_front(nodes, n, front) {
+        if has_front(nodes, n, words) {
             return Known::At(n);
         }
     }
@@ -119,7 +118,8 @@ pub(crate) fn place(nodes: &mut [u32], count: usize, front: Front) -> Placed
     ensures places { λ r. ⌜ placingOf r (now (nodes .exit)) ≡ placedIn (front .narrow) (take (front .size) (front .list)) (frontsOf (now (nodes .entry)) count) ⌝ }
 {
     if front.narrow {
-        let known = find(nodes, count, front);
+        let list = front.list;
+        let known = find(nodes, count, &list[..front.size]);
         if let Known::At(n) = known {
             return Placed {
                 stop: Stop::None,

@@ -1,28 +1,25 @@
--- Proof of `has_front`: the sizes are the same, and the test from the start equals the test from word p on.
+-- Proof of `has_front`: there are as many words, and the test from the start equals the test from word p on.
 use Prim.Native.Nat.{_≤_, _-_}
 use mathlib.Core.Path.{_≡_, refl, sym, _∙_}
 use native.Mathlib.Omega.{arith}
 use borrow.Author.Needs.{needs}
-use lib.ListN.{length, take, drop, length-map}
+use lib.ListN.{length, drop}
 use Rattle.draft.specs.Nodes.{frontAt, sameWords?}
 use Rattle.draft.proofs.NodeLaws.{other-size, word-same, word-not, words-same}
 use Rattle.draft.proofs.nodes.has_front.Statement.{statement}
 use Rattle.draft.proofs.nodes.has_front.Tie as tie
 
 abbrev Inv-loop : tie.InvT-loop
-Inv-loop nodes n front from size p₀ p =
-    (p ≤ size) × (sameWords? (frontAt nodes n) (take size (front .list)) ≡ sameWords? (drop p (frontAt nodes n)) (drop p (take size (front .list))))
+Inv-loop nodes n words from p₀ end p =
+    (p ≤ length words) × (sameWords? (frontAt nodes n) words ≡ sameWords? (drop p (frontAt nodes n)) (drop p words))
 
 abbrev μ-loop : tie.MeasureT-loop
-μ-loop nodes n front from size p₀ p = size - p
-
-fits : (c : tie.Start Inv-loop μ-loop) → c .args .t3 .size ≤ length (c .args .t3 .list)
-fits c = let e : length (c .args .t3 .list) ≡ 26 = simp length-map at (c .good .1 .1 .0 .1 .1 .1 .1 .0 .1 .0 .1) in omega arith
+μ-loop nodes n words from p₀ end p = length words - p
 
 returns : tie.Need-returns Inv-loop μ-loop
 returns c =
     let start = c .before .before in
-    sym (other-size _ _ _ _ (start .pre .0) (fits start) (c .if1 .taken))
+    sym (other-size _ _ _ (start .pre) (c .if1 .taken))
 
 loop-holds : tie.Need-loop-holds Inv-loop μ-loop
 loop-holds c = (omega arith, refl)
@@ -31,24 +28,21 @@ returns-2 : tie.Need-returns-2 Inv-loop μ-loop
 returns-2 c =
     let turn = c .before .before .before .before in
     let start = turn .before .before .before in
-    sym (turn .loop .inv .1
-    ∙ word-not _ _ _ _ (start .pre .0) (fits start) (turn .before .if1 .left) (turn .loop .p) (omega arith) (c .if2 .taken))
+    sym (turn .loop .inv .1 ∙ word-not _ _ _ (start .pre) (turn .before .if1 .left) (turn .loop .p) (omega arith) (c .if2 .taken))
 
 loop-again : tie.Need-loop-again Inv-loop μ-loop
 loop-again c =
     let turn = c .before .before .before .before in
     let start = turn .before .before .before in (
       omega arith,
-      turn .loop .inv .1
-          ∙ word-same _ _ _ _ (start .pre .0) (fits start) (turn .before .if1 .left) (turn .loop .p) (omega arith) (c .if2 .left),
+      turn .loop .inv .1 ∙ word-same _ _ _ (start .pre) (turn .before .if1 .left) (turn .loop .p) (omega arith) (c .if2 .left),
     )
 
 returns-3 : tie.Need-returns-3 Inv-loop μ-loop
 returns-3 c =
     let turn = c .before in
     let start = turn .before .before .before in
-    sym (turn .loop .inv .1
-    ∙ words-same _ _ _ _ (start .pre .0) (fits start) (turn .before .if1 .left) (turn .loop .p) (c .loop-test .left))
+    sym (turn .loop .inv .1 ∙ words-same _ _ _ (start .pre) (turn .before .if1 .left) (turn .loop .p) (c .loop-test .left))
 
 pub has-front-spec : {M : Type 1} → statement M
 has-front-spec =
