@@ -29,7 +29,7 @@ pub record EdgesAsked (x : Index) (es : List ℕ) (a : ℕ) : Type 0 where
   pub rises : getD (x .edges) a 0 ≤ getD (x .edges) (suc a) 0
   pub weights : weightsFrom es (edgesAt x a) (getD (x .edges) a 0) ≤ x .denominator
 
--- so are they, the guard of the action can be tightened, and its edges land at locations that exist
+-- the same of its edges, the guard of the action can be tightened, and its edges land at locations that exist
 pub record ActionAsked (m : Kept) (a : ℕ) : Type 0 where
   pub guard : Tightens 2 (zoneAt (m .zones) (guardsAt + a))
   pub edges : EdgesAsked (m .index) (m .edges) a

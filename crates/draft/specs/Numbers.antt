@@ -1,5 +1,4 @@
--- Algorithm: a draft's answer as a number, a place and a length, for those who hand it on: the program's line and the calls for other languages.
--- Assumes nothing.
+-- A draft's answer as a number, a place and a length, for those who hand it on: the program and the call for C and Rust. Assumes nothing.
 use Prim.Native.Nat.{ℕ}
 use Rattle.zone.specs.Checks.{Answer, refused, accepted}
 use Rattle.draft.specs.declared.numbers.Numbered.{Numbered}

@@ -13,7 +13,7 @@ pub struct Numbered {
 }
 
 // A refusal in numbers; its length is 0.
-pub(crate) fn refusal(number: u32, place: usize) -> Numbered
+pub fn refusal(number: u32, place: usize) -> Numbered
     ensures { λ r. ⌜ r ≡ numbered (refused number place) ⌝ }
 {
     Numbered {

@@ -16,18 +16,18 @@ module _ (bytes lent : List ℕ) (told : Numbered) where
   input-42 h e = record {
     answer = refused 42 0;
     tells = e;
-    over = λ _. (refl, refl);
+    long = λ _. (refl, refl);
     broken = λ k. absurd (omega arith);
-    whole = λ k. absurd (omega arith);
+    words = λ k. absurd (omega arith);
   }
 
   pub input-41 : length bytes ≤ 65540 → (length bytes % 4 ≡ 0 → ⊥) → told ≡ numbered (refused 41 0) → DraftsInput bytes lent told lent
   input-41 h w e = record {
     answer = refused 41 0;
     tells = e;
-    over = λ k. absurd (omega arith);
+    long = λ k. absurd (omega arith);
     broken = λ _ _. (refl, refl);
-    whole = λ _ k. absurd (w k);
+    words = λ _ k. absurd (w k);
   }
 
   pub input-drafted : {list model after : List ℕ} {rounds : ℕ} (answer : Answer ℕ) → length bytes ≤ 65540 → length bytes % 4 ≡ 0 →
@@ -36,9 +36,9 @@ module _ (bytes lent : List ℕ) (told : Numbered) where
   input-drafted {list} {model} {after} {rounds} answer h w l m r d e = record {
     answer = answer;
     tells = e;
-    over = λ k. absurd (omega arith);
+    long = λ k. absurd (omega arith);
     broken = λ _ k. absurd (k w);
-    whole = λ _ _. subst (λ (n : ℕ). Drafted (drop 1 (wordsOf bytes)) n lent answer after) (r ∙ ap (λ (ws : List ℕ). getD ws 0 0) l)
+    words = λ _ _. subst (λ (n : ℕ). Drafted (drop 1 (wordsOf bytes)) n lent answer after) (r ∙ ap (λ (ws : List ℕ). getD ws 0 0) l)
         (subst (λ (ws : List ℕ). Drafted ws rounds lent answer after) (m ∙ ap (drop 1) l) d);
   }
 

@@ -1,8 +1,6 @@
 // From the bytes of the input to the draft.
 ghost use mathlib.Core.Path.{_≡_};
 ghost use lib.ListN.{getD, drop};
-ghost use Rattle.zone.specs.Checks.{refused};
-ghost use Rattle.draft.specs.Numbers.{numbered};
 ghost use Rattle.draft_cli.specs.Program.{DraftsInput};
 use draft::call;
 use draft::numbers;
@@ -20,17 +18,6 @@ pub(crate) const READ_BYTES: usize = 65541;
 // The longest table that can be drafted (`words-few` of `drafting`): 64 nodes, each with its word, 20 bounds, its value and rows of 128 words, and two
 // words around them.
 pub(crate) const DRAFT_WORDS: usize = 9602;
-
-// A refusal before anything is read as words.
-pub(crate) fn refused(number: u32) -> Numbered
-    ensures { λ r. ⌜ r ≡ numbered (refused number 0) ⌝ }
-{
-    Numbered {
-        number,
-        place: 0,
-        length: 0,
-    }
-}
 
 // A word as a number of rounds.
 pub(crate) fn wide(word: u32) -> u64
@@ -64,10 +51,10 @@ pub(crate) fn drafted(bytes: &[u8], lent: &mut [u32]) -> Numbered
     ensures { λ r. ⌜ DraftsInput (now (bytes .entry)) (now (lent .entry)) r (now (lent .exit)) ⌝ }
 {
     if MOST_BYTES < bytes.len() {
-        return refused(42);
+        return numbers::refusal(42, 0);
     }
     if bytes.len() % 4 != 0 {
-        return refused(41);
+        return numbers::refusal(41, 0);
     }
     let mut space = [0u32; MOST_WORDS];
     words::to_words(bytes, &mut space);

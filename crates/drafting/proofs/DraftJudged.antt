@@ -1,8 +1,9 @@
 -- What the words of a draft come to: the judge accepts them, the fraction bounds every scheduler, more rounds never give a larger one, and without
 -- rounds it is 1. Assumes nothing.
-use Prim.Native.Nat.{ℕ, _≤_, min}
+use Prim.Native.Nat.{ℕ, _*_, _≤_, min}
 use mathlib.Core.Path.{_≡_, refl, sym, ap, subst, _∙_}
 use mathlib.Core.List.{List, [], _∷_}
+use native.Mathlib.Nat.{mul-le-mul-right}
 use native.Mathlib.Omega.{arith}
 use lib.Dec.{leb}
 use lib.ListN.{getD, length, take, drop, replicate, length-replicate, getD-replicate}
@@ -150,14 +151,20 @@ module _ (model : List ℕ) (reads : ReadModel model (accepted (countsOf model))
     }
 
   -- what the judge certifies for the words of a good draft
+  certificate-is : {n room : ℕ} {words : List ℕ} → Drafts model n room (accepted words) → {c : Certificate} → Judged model words (accepted c) →
+      c ≡ certificateOf (W (min n 1000))
+  certificate-is {n} d {c} j =
+      let k : ℕ = min n 1000 in
+      cc (judged-only model (wordsAfter k) (accepted c) (accepted (certificateOf (W k)))
+      (subst (λ (ws : List ℕ). Judged model ws (accepted c)) (words-are d) j) (judged-after k))
+
   b-is : {n room : ℕ} {words : List ℕ} → Drafts model n room (accepted words) → {c : Certificate} → Judged model words (accepted c) →
       c .b ≡ getD (values (min n 1000)) 0 0
-  b-is {n} d {c} j =
-      let k : ℕ = min n 1000 in
-      let same : c ≡ certificateOf (W k) =
-      cc (judged-only model (wordsAfter k) (accepted c) (accepted (certificateOf (W k)))
-      (subst (λ (ws : List ℕ). Judged model ws (accepted c)) (words-are d) j) (judged-after k)) in
-      ap (λ (c : Certificate). c .b) same ∙ b-after k
+  b-is {n} d j = ap (λ (c : Certificate). c .b) (certificate-is d j) ∙ b-after (min n 1000)
+
+  V-is : {n room : ℕ} {words : List ℕ} → Drafts model n room (accepted words) → {c : Certificate} → Judged model words (accepted c) →
+      c .whole ≡ whole
+  V-is {n} d j = ap (λ (c : Certificate). c .whole) (certificate-is d j) ∙ whole-after (min n 1000)
 
   b-less : (r s : ℕ) → r ≤ s → getD (values s) 0 0 ≤ getD (values r) 0 0
   b-less r s l = rounds-below (M .denominator) qs (weighed formed (known .1)) r s l .at 0
@@ -173,22 +180,26 @@ judged {model} {rounds} d =
     subst (CertifiedDraft model) (sym (words-are model (g .reads) (g .progress) (g .explores) d))
     (certified-after model (g .reads) (g .progress) (g .explores) (min rounds 1000))
 
--- ---- more rounds never give a larger fraction: b is never larger, and V is 1,000,000 in both (`judged`)
+-- ---- more rounds never give a larger fraction: b/V of the more is at most b/V of the fewer
 pub more-rounds : {model ws us : List ℕ} {r s room space : ℕ} → r ≤ s → Drafts model r room (accepted ws) → Drafts model s space (accepted us) →
-    {c d : Certificate} → Judged model ws (accepted c) → Judged model us (accepted d) → d .b ≤ c .b
+    {c d : Certificate} → Judged model ws (accepted c) → Judged model us (accepted d) → d .b * c .whole ≤ c .b * d .whole
 more-rounds {model} {r = r} {s = s} l few many {c} {d} jc jd =
     let g = good-draft few in
     let before = b-is model (g .reads) (g .progress) (g .explores) few jc in
     let behind = b-is model (g .reads) (g .progress) (g .explores) many jd in
     let less : min r 1000 ≤ min s 1000 = omega arith in
-    rw (before, behind) (b-less model (g .reads) (g .progress) (g .explores) (min r 1000) (min s 1000) less)
+    let b : d .b ≤ c .b = rw (before, behind) (b-less model (g .reads) (g .progress) (g .explores) (min r 1000) (min s 1000) less) in
+    let Vc = V-is model (g .reads) (g .progress) (g .explores) few jc in
+    let Vd = V-is model (g .reads) (g .progress) (g .explores) many jd in
+    rw (Vc, Vd) (mul-le-mul-right whole b)
 
 -- without rounds the fraction is 1
 pub zero-rounds : {model words : List ℕ} {room : ℕ} → Drafts model 0 room (accepted words) → {c : Certificate} → Judged model words (accepted c) →
-    c .b ≡ whole
+    c .b ≡ c .whole
 zero-rounds {model} d j =
     let g = good-draft d in
     b-is model (g .reads) (g .progress) (g .explores) d j ∙ b-first model (g .reads) (g .progress) (g .explores)
+    ∙ sym (V-is model (g .reads) (g .progress) (g .explores) d j)
 
 -- ---- the call
 

@@ -12,7 +12,7 @@ use lib.ListN.{getD, length, drop, length-append, List·getD-append, drop-of-len
 use lib.Seq.{drop-cons, getD-append-seam}
 use Rattle.zone.specs.Scale.{Zone, Region, within, Empty, Inside}
 use Rattle.zone.specs.Words.{boundOf}
-use Rattle.zone.specs.Checks.{Answer, accepted}
+use Rattle.zone.specs.Checks.{Answer, refused, accepted, First}
 use Rattle.zone.proofs.Bools.{both}
 use Rattle.zone.proofs.CheckLaws.{first-holds}
 use Rattle.model.specs.Model.{Edge, Action, Model}
@@ -156,6 +156,13 @@ holder-grown {found = found} {later = later} g {l} {R} {n} h = record {
   where
     same : getD later n noFound ≡ getD found n noFound
     same = grown-at g n (h .there)
+
+-- with 64 nodes there is no new one, whatever its bounds: 58 comes before 59
+pub full : {A : Type 0} (found : List Found) (Z : Zone) (P : A → Type 0) (answer : Answer A) → length found ≡ 64 → First (newChecks found Z) P answer →
+    answer ≡ refused 58 0
+unfolding newChecks
+full found Z P answer e (inl h) = let less = ltb→lt (length found) 64 (h .0) in absurd (omega arith)
+full found Z P answer e (inr h) = h .1
 
 pub node-found : {M : Model} → WellFormed M → {l : ℕ} → l < length (M .locations) → (S : Zone) {found : List Found} → Ready M found →
     (s : Progress ℕ) → nodeFor (M .clocks) l S found (accepted s) → Yields M found (λ later. Holder later l (within S)) s

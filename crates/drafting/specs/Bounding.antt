@@ -66,7 +66,7 @@ emptyZone = boundOf 0x51000FFF ∷ []
 abbrev pub BoundsOf : ℕ → Region → Zone → Type 0
 BoundsOf C R Z = (Empty R × (Z ≡ emptyZone)) ⊎ ((Empty R → ⊥) × AllTightened R (pairs C) Z)
 
--- a zone over the clocks 0 to C
+-- a zone over the clocks 0 to C, which are all that a node's words can name; a valuation gives numbers to others too
 abbrev pub Over : ℕ → Zone → Type 0
 Over C [] = Unit {0}
 Over C (b ∷ Z) = (b .i ≤ C) × (b .j ≤ C) × Over C Z

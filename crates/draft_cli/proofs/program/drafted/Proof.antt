@@ -20,7 +20,7 @@ returns-3 c =
 pub drafted-spec : {M : Type 1} → statement M
 drafted-spec =
     tie.close
-    (tie.spec (λ c κs. search needs) (λ c. input-42 _ _ _ (c .before .if1 .taken) (c .refused .ensures)) (λ c κs. search needs)
-    (λ c. input-41 _ _ _ (c .before .before .if1 .left) (c .before .if2 .taken) (c .refused2 .ensures)) (λ c. search needs) (λ c κs. search needs)
+    (tie.spec (λ c κs. search needs) (λ c. input-42 _ _ _ (c .before .if1 .taken) (c .refusal .ensures)) (λ c κs. search needs)
+    (λ c. input-41 _ _ _ (c .before .before .if1 .left) (c .before .if2 .taken) (c .refusal2 .ensures)) (λ c. search needs) (λ c κs. search needs)
     (λ c. search needs) slice-aggregate-list (λ c κs. search needs) (λ c κs. search needs) (λ c κs. search needs) (λ c κs. search needs)
     (λ c. search needs) returns-3)
