@@ -38,6 +38,9 @@ use Rattle.judge.proofs.ReachSizes.{waited-tightens, common-tightens}
 one-left : (m n : ℕ) → n < m → m - n ≡ suc (m - suc n)
 one-left m n h = omega arith
 
+pub fewer-left : {m n : ℕ} → n < m → m - (n + 1) < m - n
+fewer-left h = omega arith
+
 pub product-small : (a b m n : ℕ) → a < m → b < n → a * b < m * n
 product-small a b m n h k =
     let l : b ≤ n = omega arith in

@@ -15,7 +15,7 @@ use Rattle.table.specs.Index.{Kept as TableKept, keep as keepTable}
 use Rattle.judge.specs.Walk.{rowsFinding}
 use Rattle.judge.specs.declared.findings.Finding.{Finding}
 use Rattle.judge.proofs.FindingLaws.{found}
-use Rattle.judge.proofs.WalkLaws.{product-small, AtRow, ReachAt, AtSuccessor, no-rows, node-rows}
+use Rattle.judge.proofs.WalkLaws.{fewer-left, product-small, AtRow, ReachAt, AtSuccessor, no-rows, node-rows}
 use Rattle.judge.proofs.WalkLaws.{rows-end, row-asked, row-place, row-not-blocked, row-blocked, row-successors}
 use Rattle.judge.proofs.WalkLaws.{successor-place, successor-asked, successor-found, successor-next, sum-large, row-end}
 use Rattle.judge.proofs.walk.rows_finding.Statement.{statement}
@@ -53,11 +53,14 @@ rowStart c = start (c .before .before .before .before .before .before .before .b
 abbrev row : Known tie.After-kind-of → Known tie.In-rows
 row c = c .before .before .before .before .before
 
-abbrev rowKind : Known tie.At-loop → Known tie.After-kind-of
-rowKind c = c .before .before .before .before .before
+abbrev rowKind : Known tie.After-e-end → Known tie.After-kind-of
+rowKind c = c .before .before .before .before
 
 abbrev loopStart : Known tie.At-loop → Known tie.Start
-loopStart c = rowStart (row (rowKind c) .before)
+loopStart c = rowStart (row (rowKind (c .before)) .before)
+
+abbrev turn : Known tie.After-struct-known4 → Known tie.In-loop
+turn c = c .before .before .before .before .before .before .before
 
 abbrev model : Known tie.Start → ModelKept
 model c = keepModel (c .args .t2) (c .args .edges .now) (c .args .guards .now)
@@ -108,7 +111,7 @@ reach-is c = record {
 
 successor-here :
     (c : Known tie.At-loop) →
-    let w = rowKind c in
+    let w = rowKind (c .before) in
     let r = row w .before in
     let s = rowStart r in
     AtSuccessor (s .args .list .now) (s .args .whole) (model s) (s .args .contained) (table s) (goal s) (r .before .before .waited .result)
@@ -118,7 +121,7 @@ successor-here :
 successor-here c = c .loop .inv
 
 successor-taken : (c : Known tie.In-loop) →
-    c .before .loop .e < getD (loopStart (c .before) .args .t2 .edges) (row (rowKind (c .before)) .before .rows .a + 1) 0
+    c .before .loop .e < getD (loopStart (c .before) .args .t2 .edges) (row (rowKind (c .before .before)) .before .rows .a + 1) 0
 successor-taken c = c .loop-test .taken
 
 successor-small : (c : Known tie.In-loop) → c .before .loop .e < 128
@@ -239,10 +242,8 @@ cast-e-end c =
 
 loop-holds : tie.Need-loop-holds Inv-loop μ-loop Inv-rows μ-rows
 loop-holds c =
-    let w = c .before .before .before .before in
-    let k = row w in
-    row-successors _ _ _ _ _ (row-here (k .before)) (row-taken k) (reach-is w)
-    (λ q. eqb-false _ _ (c .before .before .before .if2 .left) (w .kind-of .ensures ∙ q)) (rowStart (k .before) .pre .stores .edges) refl
+    row-successors _ _ _ _ _ (row-here (row (rowKind c) .before)) (row-taken (row (rowKind c))) (reach-is (rowKind c))
+    (λ q. eqb-false _ _ (c .before .before .before .if2 .left) (rowKind c .kind-of .ensures ∙ q)) (rowStart (row (rowKind c) .before) .pre .stores .edges) refl
 
 mul-number-of : tie.Need-mul-number-of Inv-loop μ-loop Inv-rows μ-rows
 mul-number-of c =
@@ -278,37 +279,33 @@ successor-requires c κs =
 
 add-sum : tie.Need-add-sum Inv-loop μ-loop Inv-rows μ-rows
 add-sum c =
-    let k = c .before .before .before .before .before .before .before in
-    let few = successor-small k in
-    let s = successor-here (k .before) .small in
+    let few = successor-small (turn c) in
+    let s = successor-here (turn c .before) .small in
     let a = c .before .before .before .successor .ensures .1 in
     omega arith
 
 add-at-3 : tie.Need-add-at-3 Inv-loop μ-loop Inv-rows μ-rows
 add-at-3 c =
-    let k = c .before .before .before .before .before .before .before in
-    let p = successor-there k in
-    let size = loopStart (k .before) .good .0 .0 in
+    let p = successor-there (turn c) in
+    let size = loopStart (turn c .before) .good .0 .0 in
     omega arith
 
 add-e : tie.Need-add-e Inv-loop μ-loop Inv-rows μ-rows
-add-e c = let few = successor-small (c .before .before .before .before .before .before .before) in omega arith
+add-e c = let few = successor-small (turn c) in omega arith
 
 loop-less : tie.Need-loop-less Inv-loop μ-loop Inv-rows μ-rows
-loop-less c = let h = successor-taken (c .before .before .before .before .before .before .before) in omega arith
+loop-less c = fewer-left (successor-taken (turn c))
 
 loop-again : tie.Need-loop-again Inv-loop μ-loop Inv-rows μ-rows
 loop-again c =
-    let s = c .before .before .before .before .before in
-    let k = s .before .before in
-    let o = c .before .before .before .successor .ensures in
-    successor-next _ _ _ _ _ (successor-here (k .before)) (successor-taken k) refl (s .number-of .ensures .0) (o .0) (c .before .enum-told .given .1) (o .1)
+    successor-next _ _ _ _ _ (successor-here (turn c .before)) (successor-taken (turn c)) refl (c .before .before .before .before .before .number-of .ensures .0)
+    (c .before .before .before .successor .ensures .0) (c .before .enum-told .given .1) (c .before .before .before .successor .ensures .1)
 
 add-a : tie.Need-add-a Inv-loop μ-loop Inv-rows μ-rows
 add-a c = let few = row-small (row (c .before)) in omega arith
 
 rows-less : tie.Need-rows-less Inv-loop μ-loop Inv-rows μ-rows
-rows-less c = let h = row-taken (row (c .before)) in omega arith
+rows-less c = fewer-left (row-taken (row (c .before)))
 
 rows-again : tie.Need-rows-again Inv-loop μ-loop Inv-rows μ-rows
 rows-again c =
@@ -333,10 +330,9 @@ returns-3 c =
 -- the successor has a finding
 returns-4 : tie.Need-returns-4 Inv-loop μ-loop Inv-rows μ-rows
 returns-4 c =
-    let s = c .before .before .before in
-    let k = s .before .before in
-    successor-found _ _ _ _ _ (successor-here (k .before)) (successor-taken k) refl (s .number-of .ensures .0) (c .before .successor .ensures .0)
-    (λ q. miss found 0 tt (rw q at (c .match .keys2)))
+    let k = c .before .before .before .before .before in
+    successor-found _ _ _ _ _ (successor-here (k .before)) (successor-taken k) refl (c .before .before .before .number-of .ensures .0)
+    (c .before .successor .ensures .0) (λ q. miss found 0 tt (rw q at (c .match .keys2)))
 
 returns-5 : tie.Need-returns-5 Inv-loop μ-loop Inv-rows μ-rows
 returns-5 c = sum-large _ _ _ _ _ (successor-here (c .before .before)) (c .before .loop-test .left) (c .if4 .taken)
