@@ -38,6 +38,9 @@ use Rattle.judge.proofs.ReachSizes.{waited-tightens, common-tightens}
 one-left : (m n : ℕ) → n < m → m - n ≡ suc (m - suc n)
 one-left m n h = omega arith
 
+pub fewer-left : {m n : ℕ} → n < m → m - (n + 1) < m - n
+fewer-left h = omega arith
+
 pub product-small : (a b m n : ℕ) → a < m → b < n → a * b < m * n
 product-small a b m n h k =
     let l : b ≤ n = omega arith in
@@ -134,15 +137,16 @@ module _ (words : List ℕ) (whole : ℕ) (m : ModelKept) (contained : List Bool
       target-bad q = rw (← e, target, ne-eqb _ _ q)
 
     -- a node whose location is no target, cut or not
-    module _ (un : getD (m .index .targets) (N .location) false ≡ false) where
-      pub node-cut : kind (getD words (N .place + 1) 0) ≡ tableNumber cut → cutFinding words k n N (N .place + 1) ≡ nodeFinding words whole m contained k n
+    module _ (un : getD (m .index .targets) (N .location) false ≡ false) {f : Finding} where
+      pub node-cut : kind (getD words (N .place + 1) 0) ≡ tableNumber cut → f ≡ cutFinding words k n N (N .place + 1) →
+          f ≡ nodeFinding words whole m contained k n
       unfolding nodeFinding
-      node-cut q = let c = eq-eqb _ _ q in rw (← e, un, ← add-one (N .place), c)
+      node-cut q ef = let c = eq-eqb _ _ q in ef ∙ rw (← e, un, ← add-one (N .place), c)
 
-      pub node-uncut : (kind (getD words (N .place + 1) 0) ≡ tableNumber cut → ⊥) →
-          rowsFinding words whole m contained k n N ≡ nodeFinding words whole m contained k n
+      pub node-uncut : (kind (getD words (N .place + 1) 0) ≡ tableNumber cut → ⊥) → f ≡ rowsFinding words whole m contained k n N →
+          f ≡ nodeFinding words whole m contained k n
       unfolding nodeFinding
-      node-uncut q = let c = ne-eqb _ _ q in rw (← e, un, ← add-one (N .place), c)
+      node-uncut q ef = let c = ne-eqb _ _ q in ef ∙ rw (← e, un, ← add-one (N .place), c)
 
   -- the rows of a node
   module _

@@ -69,8 +69,7 @@ returns-3 : tie.Need-returns-3
 returns-3 c =
     let w = c .before .before in
     let k = w .before .before in
-    c .cut-finding .ensures
-    ∙ node-cut _ _ _ _ _ _ (loaded k .load .ensures) (k .before .if1 .left) (sym (w .kind-of .ensures) ∙ c .before .if3 .taken)
+    node-cut _ _ _ _ _ _ (loaded k .load .ensures) (k .before .if1 .left) (sym (w .kind-of .ensures) ∙ c .before .if3 .taken) (c .cut-finding .ensures)
 
 rows-finding-requires : tie.Need-rows-finding-requires
 rows-finding-requires c κs =
@@ -81,9 +80,9 @@ returns-4 : tie.Need-returns-4
 returns-4 c =
     let w = c .before .before in
     let k = w .before .before in
-    c .rows-finding .ensures
-    ∙ node-uncut _ _ _ _ _ _ (loaded k .load .ensures) (k .before .if1 .left)
-    (λ q. c .before .if3 .left (w .kind-of .ensures ∙ q))
+    let s = start (loaded k) in
+    node-uncut (s .args .list .now) _ (model s) _ (table s) _ (loaded k .load .ensures) (k .before .if1 .left)
+    (λ q. c .before .if3 .left (w .kind-of .ensures ∙ q)) (c .rows-finding .ensures)
 
 pub walk-node-spec : {M : Type 1} → statement M
 walk-node-spec =
