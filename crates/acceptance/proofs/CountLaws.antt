@@ -1,7 +1,7 @@
 -- What a wrong definition of the weighted count or of the certified fraction would break: a count is at most D to the power n, the certified
 -- fraction at most 1, the count for no steps 1 at a target and 0 elsewhere; what document 01's timeline comes to, also where edges land outside; and
 -- what a scheduler sees. Assumes nothing.
-use Prim.Native.Nat.{ℕ, zero, suc, _+_, _*_, _^_, _≤_, zero-le}
+use Prim.Native.Nat.{ℕ, zero, suc, _*_, _^_, _≤_, zero-le}
 use mathlib.Core.Path.{_≡_, refl}
 use mathlib.Core.Bool.{Bool, true, false, cond, _&&_}
 use mathlib.Core.List.{List, [], _∷_, _++_, reverse}

@@ -7,7 +7,6 @@ use mathlib.Core.List.{List, [], _∷_, _++_}
 use native.Mathlib.Nat.{eq-or-lt-of-le, not-suc-le-zero}
 use native.Mathlib.Numerals.{add-one}
 use native.Mathlib.Omega.{arith}
-use borrow.Author.Tests.{ltb-true}
 use lib.Dec.{ltb}
 use lib.ListN.{length, getD, length-append, List·getD-append}
 use lib.Seq.{getD-append-seam}
@@ -26,8 +25,8 @@ use Rattle.drafting.specs.Words.{frontWords}
 use Rattle.draft.proofs.PlacingLaws.{front-location}
 use Rattle.draft.specs.Fronts.{zoneFrom}
 use Rattle.draft.specs.Nodes.{Placing, addedTo, knownOr, knownFrom, placedIn}
-use Rattle.draft.specs.Exploration.{Drawing, Explored, goOnBy, goOnEnds, withPlaced, landedSquare, startDrawing}
-use Rattle.draft.specs.Exploration.{withSuccessor, successorsFrom, withRow, rowsFrom, withNode, nodesFrom}
+use Rattle.draft.specs.Exploration.{Drawing, goOnBy, withPlaced, landedSquare, startDrawing}
+use Rattle.draft.specs.Exploration.{withSuccessor, successorsFrom, withRow, rowsFrom, withNode}
 use Rattle.draft.specs.Asked.{ActionAsked, ModelAsked, Located}
 use Rattle.draft.specs.declared.nodes.Known.{Known}
 use Rattle.draft.specs.declared.nodes.Known.the-variants as known
@@ -70,12 +69,6 @@ module _ (L : ℕ) where
   located-going stop.None d e i j = j
   located-going stop.Nodes d e i j = i
   located-going stop.Bounds d e i j = i
-
-  located-ends : (s : Stop) (d e : Explored) → Located L (d .drawn .fronts) → Located L (e .drawn .fronts) → Located L (goOnEnds s d e .drawn .fronts)
-  unfolding goOnEnds
-  located-ends stop.None d e i j = j
-  located-ends stop.Nodes d e i j = i
-  located-ends stop.Bounds d e i j = i
 
 -- the start node
 pub located-start : (x : Index) (y : Square) → x .start < x .locations → x .locations ≤ 16 → Located (x .locations) (startDrawing x y .fronts)
@@ -131,11 +124,3 @@ module _ (m : Kept) (asked : ModelAsked m) where
       let end = getD (m .index .actions) (l + 1) 0 in
       by-test (λ (e : Drawing). Located L (e .fronts)) (getD (m .index .targets) l false) _ _ (λ _. i)
       (λ _. located-rows _ (end - first) first d (λ k g q. asked .actions l (i .at n h) k g (rw (← add-one l) (omega arith))) i)
-
-  pub located-nodes : (n k : ℕ) (ends : List ℕ) (d : Drawing) → Located L (d .fronts) → Located L (nodesFrom m n k ends d .drawn .fronts)
-  unfolding nodesFrom
-  located-nodes zero k ends d i = i
-  located-nodes (suc n) k ends d i =
-      by-test (λ (e : Explored). Located L (e .drawn .fronts)) (ltb k (length (d .fronts))) _ _
-      (λ t. let j = located-node k d (ltb-true _ _ t) i in located-ends L _ _ _ j (located-nodes n (suc k) _ _ j))
-      (λ _. i)

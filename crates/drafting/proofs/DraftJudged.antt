@@ -8,7 +8,7 @@ use native.Mathlib.Omega.{arith}
 use lib.Dec.{leb}
 use lib.ListN.{getD, length, take, drop, replicate, length-replicate, getD-replicate}
 use lib.Seq.{take-append-seam}
-use Rattle.zone.specs.Checks.{Answer, refused, accepted, First, test}
+use Rattle.zone.specs.Checks.{Answer, refused, accepted, test}
 use Rattle.zone.proofs.CheckLaws.{first-all, first-holds}
 use Rattle.model.specs.Model.{Model, modelOf}
 use Rattle.model.specs.Reading.{modelChecks, countsOf, ReadModel}

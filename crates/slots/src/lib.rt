@@ -2,7 +2,7 @@
 // what is decided in between is decided by value.
 ghost use Prim.Native.Nat.{_<_};
 ghost use mathlib.Core.Path.{_≡_};
-ghost use lib.ListN.{length, set};
+ghost use lib.ListN.{set};
 ghost use Rattle.slots.specs.Loading.{started, withSlot, Loads};
 
 // A slot: vacant, or held by a team with a certified fraction b / V.
