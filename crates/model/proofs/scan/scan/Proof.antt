@@ -16,7 +16,7 @@ use Rattle.model.specs.Grammar.{follows, tableFollows, numbered?, mayFol
 use Rattle.model.specs.Scan.{startBoundsAt, zoneCount, WithinLimits, faultAt, seenWithKind}
 use Rattle.model.specs.Index.{keep, keptWithKind, keptWith, scanFrom, scanned}
 use Rattle.model.specs.declared.seen.Fault.the-variants as fault
-use Rattle.model.proofs.KindLaws.{FollowsTable, opener-row, model-looked-up}
+use Rattle.model.proofs.KindLaws.{other-number, FollowsTable, opener-row, model-looked-up}
 use Rattle.model.proofs.Limits.{limits-nothing, room-location, room-action, room-edge, bound-cell}
 use Rattle.model.proofs.ScanLaws.{seen-step, kept-step, kept-stays, kept-same, put-same, scan-end, scan-stop, scan-go}
 use Rattle.model.proofs.scan.scan.Statement.{statement}
@@ -61,7 +61,7 @@ named : (c : tie.After-enum-told Inv-loop μ-loop) (n : Kind) → read c .kind-o
 named c n e = sym (read c .kind-of .ensures) ∙ e
 
 other : (c : tie.After-enum-told Inv-loop μ-loop) (n : Kind) → (read c .kind-of .result ≡ number n → ⊥) → kind (word (checked c)) ≡ number n → ⊥
-other c n h q = h (read c .kind-of .ensures ∙ q)
+other c n = other-number (read c .kind-of .ensures)
 
 -- a slot of the zones is in their store
 has-slot : (c : tie.After-enum-told Inv-loop μ-loop) (slot : ℕ) → slot < zoneCount → HasSlot slot (turn (checked c) .loop .zones)

@@ -13,7 +13,7 @@ use Rattle.zone.specs.Stores.{putAt}
 use Rattle.model.specs.TableKinds.{TableKind, node, nodeBound, value, tableNumber}
 use Rattle.model.specs.Grammar.{follows, tableFollows, numbered?, mayFollow?, follows?, tableFollows?}
 use Rattle.model.specs.declared.index.Index.{Index}
-use Rattle.model.proofs.KindLaws.{FollowsTable, table-opener-row, table-looked-up}
+use Rattle.model.proofs.KindLaws.{other-number, FollowsTable, table-opener-row, table-looked-up}
 use Rattle.table.specs.Nodes.{putEntry}
 use Rattle.table.specs.Scan.{faultAt, seenWithKind, IndexFits, WithinLimits}
 use Rattle.table.specs.Index.{keep, keptWith, scanFrom, scanned}
@@ -80,7 +80,7 @@ named c k e = sym (read c .kind-of .ensures) ∙ e
 other :
     (c : tie.After-enum-told Inv-loop μ-loop) (k : TableKind) → (read c .kind-of .result ≡ tableNumber k → ⊥) →
     kind (word (checked c)) ≡ tableNumber k → ⊥
-other c k h q = h (read c .kind-of .ensures ∙ q)
+other c k = other-number (read c .kind-of .ensures)
 
 loop-holds : tie.Need-loop-holds Inv-loop μ-loop
 unfolding scanned follows tableFollows numbered? mayFollow? follows? tableFollows? all?
