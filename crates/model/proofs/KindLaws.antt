@@ -15,6 +15,10 @@ use Rattle.model.specs.Grammar.{follows, tableFollows, numbered?, mayFol
 use Rattle.model.specs.Openers.{openers, opener?, tableOpeners, tableOpener?, edgeMayFollow?}
 use Rattle.model.proofs.TableRule.{same?, same, keeps?, keeps}
 
+-- a number that is not n, read as another
+pub other-number : {r m n : ℕ} → r ≡ m → r ≢ n → m ≢ n
+other-number e h q = h (e ∙ q)
+
 -- a word with the number of a kind is of that kind
 pub kind-is : (k : Kind) (w : ℕ) → kind w ≡ number k → kindOf w ≡ k
 unfolding kindOf among

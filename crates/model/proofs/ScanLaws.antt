@@ -36,9 +36,11 @@ module _ (s : Seen) (w : ℕ) where
   unfolding seenWith
   seen-step p k e = rw (kind-is k w e)
 
-  pub kept-step : (m : Kept) (k : Kind) → kind w ≡ number k → keptWithKind k s w m ≡ keptWith s w m
+  pub kept-step :
+      (m : Kept) (k : Kind) {x : Index} {es : List ℕ} {zs : List ℤ} → let next = keptWithKind k s w m in
+      kind w ≡ number k → x ≡ next .index → es ≡ next .edges → zs ≡ next .zones → keep x es zs ≡ keptWith s w m
   unfolding keptWith
-  kept-step m k e = rw (kind-is k w e)
+  kept-step m k e f g h = rw (f, g, h, kind-is k w e)
 
   -- nothing, where it is of another kind than these
   pub seen-stays :

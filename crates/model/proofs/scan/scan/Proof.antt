@@ -16,7 +16,7 @@ use Rattle.model.specs.Grammar.{follows, tableFollows, numbered?, mayFol
 use Rattle.model.specs.Scan.{startBoundsAt, zoneCount, WithinLimits, faultAt, seenWithKind}
 use Rattle.model.specs.Index.{keep, keptWithKind, keptWith, scanFrom, scanned}
 use Rattle.model.specs.declared.seen.Fault.the-variants as fault
-use Rattle.model.proofs.KindLaws.{FollowsTable, opener-row, model-looked-up}
+use Rattle.model.proofs.KindLaws.{other-number, FollowsTable, opener-row, model-looked-up}
 use Rattle.model.proofs.Limits.{limits-nothing, room-location, room-action, room-edge, bound-cell}
 use Rattle.model.proofs.ScanLaws.{seen-step, kept-step, kept-stays, kept-same, put-same, scan-end, scan-stop, scan-go}
 use Rattle.model.proofs.scan.scan.Statement.{statement}
@@ -30,12 +30,15 @@ Inv-loop list edges₀ zones₀ seen₀ index₀ follows at₀ at-end edges zone
 abbrev μ-loop : tie.MeasureT-loop
 μ-loop list edges₀ zones₀ seen₀ index₀ follows at₀ at-end edges zones seen index at = length list - at
 
--- past a word's check: the turn of the loop and the word
+-- past a word's check: the turn of the loop, the word, and that there is one
 abbrev turn : tie.After-fault Inv-loop μ-loop → tie.At-loop Inv-loop μ-loop
 turn c = c .before .before .before .before .before .before
 
 abbrev word : tie.After-fault Inv-loop μ-loop → ℕ
 word c = getD (turn c .before .before .before .args .list .now) (turn c .loop .at) 0
+
+inside : (c : tie.After-fault Inv-loop μ-loop) → turn c .loop .at < length (turn c .before .before .before .args .list .now)
+inside c = c .before .before .before .before .before .loop-test .taken
 
 -- the word has a fault
 faulty : (c : tie.At-match-keys2 Inv-loop μ-loop) → c .before .fault .result ≡ fault.None → ⊥
@@ -58,7 +61,7 @@ named : (c : tie.After-enum-told Inv-loop μ-loop) (n : Kind) → read c .kind-o
 named c n e = sym (read c .kind-of .ensures) ∙ e
 
 other : (c : tie.After-enum-told Inv-loop μ-loop) (n : Kind) → (read c .kind-of .result ≡ number n → ⊥) → kind (word (checked c)) ≡ number n → ⊥
-other c n h q = h (read c .kind-of .ensures ∙ q)
+other c n = other-number (read c .kind-of .ensures)
 
 -- a slot of the zones is in their store
 has-slot : (c : tie.After-enum-told Inv-loop μ-loop) (slot : ℕ) → slot < zoneCount → HasSlot slot (turn (checked c) .loop .zones)
@@ -77,16 +80,16 @@ joined c =
     let k = c .before .before in
     ⊎-elim
     (λ w.
-    kept-same (w .8 ∙ w .1 .ensures) (w .6) (w .7 ∙ put-same _ _ (w .2 .ensures) (w .4 .ensures))
-    ∙ kept-step _ _ _ location (named k location (w .0 .keys1)))
+    kept-step _ _ _ location (named k location (w .0 .keys1)) (w .8 ∙ w .1 .ensures) (w .6)
+    (w .7 ∙ put-same _ _ (w .2 .ensures) (w .4 .ensures)))
     (⊎-elim
     (λ w.
-    kept-same (w .9 ∙ w .1 .ensures) (w .7) (w .8 ∙ put-same _ _ (w .2 .ensures) (w .5 .ensures))
-    ∙ kept-step _ _ _ action (named k action (w .0 .keys2)))
+    kept-step _ _ _ action (named k action (w .0 .keys2)) (w .9 ∙ w .1 .ensures) (w .7)
+    (w .8 ∙ put-same _ _ (w .2 .ensures) (w .5 .ensures)))
     (⊎-elim
-    (λ w. kept-same (w .3) (w .1) (w .2) ∙ kept-step _ _ _ edge (named k edge (w .0 .keys3)))
+    (λ w. kept-step _ _ _ edge (named k edge (w .0 .keys3)) (w .3) (w .1) (w .2))
     (⊎-elim
-    (λ w. kept-same (w .7) (w .5) (w .6 ∙ put-same _ _ (w .1 .ensures) (w .3 .ensures)) ∙ kept-step _ _ _ start (named k start (w .0 .keys4)))
+    (λ w. kept-step _ _ _ start (named k start (w .0 .keys4)) (w .7) (w .5) (w .6 ∙ put-same _ _ (w .1 .ensures) (w .3 .ensures)))
     (λ w.
     let r = w .0 .rest in
     kept-same (w .3) (w .1) (w .2)
@@ -102,13 +105,16 @@ loop-holds c = (omega arith, limits-nothing, refl, refl, refl, record { rule = r
 index-1-allowed : tie.Need-index-1-allowed Inv-loop μ-loop
 index-1-allowed c = opener-row _ (c .before .before .before .before .loop .inv .1 .opener)
 
+-- and a place for the word's kind
+index-2-allowed : tie.Need-index-2-allowed Inv-loop μ-loop
+index-2-allowed c = search needs
+
 -- what it says of the word
 fault-requires : tie.Need-fault-requires Inv-loop μ-loop
 fault-requires c κs =
     let read = c .before .before in
     let here = read .before .before .before .loop in
-    let few : read .kind-of .result < 16 = search needs in
-    (here .inv .1, model-looked-up (here .inv .5) _ few (here .inv .1 .opener) ∙ ap (follows? (here .seen .opener)) (read .kind-of .ensures))
+    (here .inv .1, model-looked-up (here .inv .5) _ (index-2-allowed (c .before)) (here .inv .1 .opener) ∙ ap (follows? (here .seen .opener)) (read .kind-of .ensures))
 
 same-length : tie.Need-same-length Inv-loop μ-loop
 same-length c = turn (c .before .before) .loop .inv .3
@@ -120,7 +126,7 @@ returns : tie.Need-returns Inv-loop μ-loop
 returns c =
     let told = c .before in
     let here = turn (told .before) .loop in
-    rw (c .at .ensures) (scan-stop _ (here .at) _ _ (omega arith) _ (told .before .fault .ensures) (faulty told) ∙ sym (here .inv .2))
+    rw (c .at .ensures) (scan-stop _ (here .at) _ _ (inside (told .before)) _ (told .before .fault .ensures) (faulty told) ∙ sym (here .inv .2))
 
 add-bound-requires : tie.Need-add-bound-requires Inv-loop μ-loop
 add-bound-requires c κs =
@@ -136,8 +142,8 @@ loop-again c =
     let inv = here .inv in
     let e = named k bound (c .before .before .before .if1 .taken) in
     let go =
-    scan-go _ _ _ _ (omega arith) (inv .1) (inv .2) (sound k) (seen-step _ _ _ bound e)
-    (kept-same refl refl (c .before .add-bound .ensures) ∙ kept-step _ _ _ bound e) in
+    scan-go _ _ _ _ (inside (checked k)) (inv .1) (inv .2) (sound k) (seen-step _ _ _ bound e)
+    (kept-step _ _ _ bound e refl refl (c .before .add-bound .ensures)) in
     (go .0, go .1, go .2, go .3 .edges ∙ inv .3, go .3 .zones ∙ inv .4, inv .5)
 
 with-location-requires : tie.Need-with-location-requires Inv-loop μ-loop
@@ -180,7 +186,7 @@ loop-again-2 c =
     let met = c .before in
     let k = met .before .before in
     let inv = turn (checked k) .loop .inv in
-    let go = scan-go _ _ _ _ (omega arith) (inv .1) (inv .2) (sound k) (c .with-word .ensures) (joined met) in
+    let go = scan-go _ _ _ _ (inside (checked k)) (inv .1) (inv .2) (sound k) (c .with-word .ensures) (joined met) in
     (go .0, go .1, go .2, go .3 .edges ∙ inv .3, go .3 .zones ∙ inv .4, inv .5)
 
 same-length-3 : tie.Need-same-length-3 Inv-loop μ-loop
@@ -200,7 +206,7 @@ pub scan-spec : {M : Type 1} → statement M
 scan-spec =
     tie.close
     (tie.spec Inv-loop μ-loop loop-holds (λ c. search needs) (λ c. search needs) (λ c κs. search needs) (λ c. search needs) (λ c. search needs)
-    (λ c. search needs) index-1-allowed (λ c. search needs) fault-requires (λ c. search needs) (λ c κs. search needs) same-length same-length-2
+    (λ c. search needs) index-1-allowed index-2-allowed fault-requires (λ c. search needs) (λ c κs. search needs) same-length same-length-2
     returns add-bound-requires (λ c. search needs) (λ c. search needs) loop-again with-location-requires (λ c κs. search needs) put-requires
     with-action-requires (λ c κs. search needs) (λ c. search needs) put-requires-2 (λ c. search needs) slice-write-edges (λ c κs. search needs)
     put-requires-3 (λ c κs. search needs) (λ c. search needs) (λ c. search needs) loop-again-2 (λ c κs. search needs) (λ c κs. search needs)

@@ -13,7 +13,7 @@ use Rattle.zone.specs.Stores.{putAt}
 use Rattle.model.specs.TableKinds.{TableKind, node, nodeBound, value, tableNumber}
 use Rattle.model.specs.Grammar.{follows, tableFollows, numbered?, mayFollow?, follows?, tableFollows?}
 use Rattle.model.specs.declared.index.Index.{Index}
-use Rattle.model.proofs.KindLaws.{FollowsTable, table-opener-row, table-looked-up}
+use Rattle.model.proofs.KindLaws.{other-number, FollowsTable, table-opener-row, table-looked-up}
 use Rattle.table.specs.Nodes.{putEntry}
 use Rattle.table.specs.Scan.{faultAt, seenWithKind, IndexFits, WithinLimits}
 use Rattle.table.specs.Index.{keep, keptWith, scanFrom, scanned}
@@ -33,7 +33,7 @@ Inv-loop index list nodes₀ zones₀ seen₀ follows at₀ at-end nodes zones s
 abbrev μ-loop : tie.MeasureT-loop
 μ-loop index list nodes₀ zones₀ seen₀ follows at₀ at-end nodes zones seen at = length list - at
 
--- past a word's check: the turn of the loop and the word
+-- past a word's check: the turn of the loop, the word, and that there is one
 abbrev turn : tie.After-fault Inv-loop μ-loop → tie.At-loop Inv-loop μ-loop
 turn c = c .before .before .before .before .before .before
 
@@ -42,6 +42,9 @@ began c = c .before .before .before
 
 abbrev word : tie.After-fault Inv-loop μ-loop → ℕ
 word c = getD (began (turn c) .args .list .now) (turn c .loop .at) 0
+
+inside : (c : tie.After-fault Inv-loop μ-loop) → turn c .loop .at < length (began (turn c) .args .list .now)
+inside c = c .before .before .before .before .before .loop-test .taken
 
 -- the word has a fault
 faulty : (c : tie.At-match-keys2 Inv-loop μ-loop) → c .before .fault .result ≡ fault.None → ⊥
@@ -77,7 +80,7 @@ named c k e = sym (read c .kind-of .ensures) ∙ e
 other :
     (c : tie.After-enum-told Inv-loop μ-loop) (k : TableKind) → (read c .kind-of .result ≡ tableNumber k → ⊥) →
     kind (word (checked c)) ≡ tableNumber k → ⊥
-other c k h q = h (read c .kind-of .ensures ∙ q)
+other c k = other-number (read c .kind-of .ensures)
 
 loop-holds : tie.Need-loop-holds Inv-loop μ-loop
 unfolding scanned follows tableFollows numbered? mayFollow? follows? tableFollows? all?
@@ -87,13 +90,16 @@ loop-holds c = (omega arith, limits-nothing _, refl, refl, refl, record { rule =
 index-1-allowed : tie.Need-index-1-allowed Inv-loop μ-loop
 index-1-allowed c = table-opener-row _ (c .before .before .before .before .loop .inv .1 .opener)
 
+-- and a place for the word's kind
+index-2-allowed : tie.Need-index-2-allowed Inv-loop μ-loop
+index-2-allowed c = search needs
+
 -- what it says of the word
 fault-requires : tie.Need-fault-requires Inv-loop μ-loop
 fault-requires c κs =
     let read = c .before .before in
     let here = read .before .before .before .loop in
-    let few : read .kind-of .result < 16 = search needs in
-    table-looked-up (here .inv .5) _ few (here .inv .1 .opener) ∙ ap (tableFollows? (here .seen .opener)) (read .kind-of .ensures)
+    table-looked-up (here .inv .5) _ (index-2-allowed (c .before)) (here .inv .1 .opener) ∙ ap (tableFollows? (here .seen .opener)) (read .kind-of .ensures)
 
 same-length : tie.Need-same-length Inv-loop μ-loop
 same-length c = turn (c .before) .loop .inv .2
@@ -104,7 +110,7 @@ same-length-2 c = turn (c .before) .loop .inv .3
 returns : tie.Need-returns Inv-loop μ-loop
 returns c =
     let here = turn (c .before) .loop in
-    scan-stop _ _ (here .at) _ _ (omega arith) _ (c .before .fault .ensures) (faulty c) ∙ sym (here .inv .4)
+    scan-stop _ _ (here .at) _ _ (inside (c .before)) _ (c .before .fault .ensures) (faulty c) ∙ sym (here .inv .4)
 
 -- a bound: it stands behind a node and has two of five clocks
 bounded :
@@ -129,7 +135,7 @@ loop-again c =
     let k = c .before .before .before .before .before in
     let here = turn (checked k) .loop in
     let e = named k nodeBound (c .before .before .before .before .if1 .taken) in
-    let go = scan-go _ _ _ _ _ (omega arith) (fits k) (here .inv .1) (here .inv .2) (here .inv .3) (here .inv .4) (sound k)
+    let go = scan-go _ _ _ _ _ (inside (checked k)) (fits k) (here .inv .1) (here .inv .2) (here .inv .3) (here .inv .4) (sound k)
     (seen-step _ _ _ _ nodeBound e) (kept-bound _ _ _ _ _ e refl (c .before .add-bound .ensures)) in
     (go .0, go .1, go .2, go .3, go .4, here .inv .5)
 
@@ -176,7 +182,7 @@ loop-again-2 : tie.Need-loop-again-2 Inv-loop μ-loop
 loop-again-2 c =
     let k = c .before .before .before in
     let here = turn (checked k) .loop in
-    let go = scan-go _ _ _ _ _ (omega arith) (fits k) (here .inv .1) (here .inv .2) (here .inv .3) (here .inv .4) (sound k)
+    let go = scan-go _ _ _ _ _ (inside (checked k)) (fits k) (here .inv .1) (here .inv .2) (here .inv .3) (here .inv .4) (sound k)
     (c .with-word .ensures) (joined (c .before)) in
     (go .0, go .1, go .2, go .3, go .4, here .inv .5)
 
@@ -195,7 +201,7 @@ pub scan-spec : {M : Type 1} → statement M
 scan-spec =
     tie.close
     (tie.spec Inv-loop μ-loop loop-holds (λ c. search needs) (λ c. search needs) (λ c κs. search needs) (λ c. search needs) (λ c. search needs)
-    (λ c. search needs) index-1-allowed (λ c. search needs) fault-requires (λ c. search needs) same-length same-length-2 returns sub-add-bound
+    (λ c. search needs) index-1-allowed index-2-allowed fault-requires (λ c. search needs) same-length same-length-2 returns sub-add-bound
     add-bound-requires (λ c. search needs) (λ c. search needs) loop-again (λ c κs. search needs) put-requires (λ c κs. search needs) sub-put
     put-requires-2 with-word-requires (λ c. search needs) (λ c. search needs) loop-again-2 (λ c κs. search needs) same-length-3 same-length-4
     returns-2)

@@ -1,10 +1,9 @@
 -- Proof of `Seen::with_word`: by the word's kind, each call adds what the definition adds; a bound or a word of no kind adds nothing.
-use Prim.Native.Nat.{ℕ}
-use mathlib.Core.Path.{_≡_, sym, _∙_}
+use mathlib.Core.Path.{sym, _∙_}
 use borrow.Author.Needs.{needs}
-use Rattle.zone.specs.Words.{kind}
 use Rattle.model.specs.Kinds.{head, location, action, edge, start}
 use Rattle.model.specs.Scan.{seenWithKind}
+use Rattle.model.proofs.KindLaws.{other-number}
 use Rattle.model.proofs.ScanLaws.{seen-step, seen-stays}
 use Rattle.model.proofs.seen.Seen.with_word.Statement.{statement}
 use Rattle.model.proofs.seen.Seen.with_word.Tie as tie
@@ -31,10 +30,10 @@ returns-5 c = c .with-start .ensures ∙ seen-step _ _ _ start (sym (c .before .
 
 returns-6 : tie.Need-returns-6
 returns-6 c =
-    let ne : (n : ℕ) → (c .before .kind-of .result ≡ n → ⊥) → kind (c .before .before .args .word) ≡ n → ⊥
-    = λ n h q. h (c .before .kind-of .ensures ∙ q) in
+    let read = c .before .kind-of .ensures in
     let r = c .match .rest in
-    seen-stays _ _ _ (ne 1 (r .0 .0 .0 .0 .1)) (ne 2 (r .0 .0 .0 .1)) (ne 3 (r .0 .0 .1)) (ne 4 (r .0 .1)) (ne 6 (r .1))
+    seen-stays _ _ _ (other-number read (r .0 .0 .0 .0 .1)) (other-number read (r .0 .0 .0 .1)) (other-number read (r .0 .0 .1))
+    (other-number read (r .0 .1)) (other-number read (r .1))
 
 pub with-word-spec : {M : Type 1} → statement M
 with-word-spec =

@@ -4,6 +4,7 @@ use mathlib.Core.Path.{_≡_, sym, _∙_}
 use borrow.Author.Needs.{needs}
 use Rattle.zone.specs.Words.{kind}
 use Rattle.model.specs.TableKinds.{TableKind, tableHead, node, value, blocked, successor, startNode, cut, tableNumber}
+use Rattle.model.proofs.KindLaws.{other-number}
 use Rattle.table.specs.Scan.{seenWithKind}
 use Rattle.table.proofs.Limits.{value-node, blocked-asks, successor-asks}
 use Rattle.table.proofs.ScanLaws.{seen-step, seen-stays}
@@ -59,11 +60,10 @@ returns-7 c = c .with-cut .ensures ∙ seen-step _ _ _ _ cut (named (c .before .
 
 returns-8 : tie.Need-returns-8
 returns-8 c =
-    let ne : (k : TableKind) → (c .before .kind-of .result ≡ tableNumber k → ⊥) → kind (c .before .before .args .word) ≡ tableNumber k → ⊥
-    = λ k h q. h (c .before .kind-of .ensures ∙ q) in
+    let read = c .before .kind-of .ensures in
     let r = c .match .rest in
-    seen-stays _ _ _ _ (ne tableHead (r .0 .0 .0 .0 .0 .0 .1)) (ne node (r .0 .0 .0 .0 .0 .1)) (ne value (r .0 .0 .0 .0 .1))
-    (ne blocked (r .0 .0 .0 .1)) (ne successor (r .0 .0 .1)) (ne startNode (r .0 .1)) (ne cut (r .1))
+    seen-stays _ _ _ _ (other-number read (r .0 .0 .0 .0 .0 .0 .1)) (other-number read (r .0 .0 .0 .0 .0 .1)) (other-number read (r .0 .0 .0 .0 .1))
+    (other-number read (r .0 .0 .0 .1)) (other-number read (r .0 .0 .1)) (other-number read (r .0 .1)) (other-number read (r .1))
 
 pub with-word-spec : {M : Type 1} → statement M
 with-word-spec =
