@@ -7,15 +7,10 @@ use native.Mathlib.Omega.{arith}
 use lib.ListN.{getD, length, take, drop, take-append-drop}
 use lib.Seq.{drop-drop, drop-append-seam}
 use Rattle.zone.specs.Squares.{listOf}
-use Rattle.model.specs.Model.{Edge, Action, Model}
-use Rattle.model.specs.States.{locationAt}
-use Rattle.table.specs.Table.{rowActions}
-use Rattle.acceptance.specs.Acceptance.{Pairwise}
-use Rattle.drafting.specs.Exploring.{Found, FoundRow, blocked, toNodes, noFound}
+use Rattle.model.specs.Model.{Model}
+use Rattle.drafting.specs.Exploring.{Found, FoundRow, noFound}
 use Rattle.drafting.specs.Words.{frontWords}
 use Rattle.drafting.proofs.Shares.{Valued, noValued}
-use Rattle.drafting.proofs.ReadBack.{Numbers}
-use Rattle.drafting.proofs.ExploreLaws.{SuccessorGood, RowGood, RowsGood, AllFound}
 use Rattle.drafting.proofs.ValuedRows.{ValuedAll, noNode, nextNode}
 use Rattle.draft.specs.Nodes.{frontAt, frontsOf}
 use Rattle.draft.specs.Values.{beginOf}
@@ -83,36 +78,3 @@ stored-at {Fs = Fs} {rows} {qs} {nodes} {codes} {ends} {count} {used} v s n l =
   where
     codesAre : codes ≡ allCodes rows qs ++ drop used codes
     codesAre = sym (take-append-drop used codes) ∙ ap (λ (xs : List ℕ). xs ++ drop used codes) (s .coded .codesAre)
-
--- ---- the numbers of nodes in rows
-
--- they are those of nodes, of which there are so many
-abbrev pub RowsNumbers : ℕ → List FoundRow → Type 0
-RowsNumbers count [] = Unit {0}
-RowsNumbers count (blocked ∷ rs) = RowsNumbers count rs
-RowsNumbers count (toNodes ns ∷ rs) = Numbers count ns × RowsNumbers count rs
-
-module _ (M : Model) (found : List Found) where
-  row-numbers : (F : Found) (A : Action) (es : List Edge) (ns : List ℕ) → Pairwise (SuccessorGood M found F A) es ns → Numbers (length found) ns
-  row-numbers F A [] [] h = tt
-  row-numbers F A [] (n ∷ ns) h = absurd h
-  row-numbers F A (e ∷ es) [] h = absurd h
-  row-numbers F A (e ∷ es) (n ∷ ns) h = (h .0 .there, row-numbers F A es ns (h .1))
-
-  rows-numbers : (F : Found) (As : List Action) (rs : List FoundRow) → Pairwise (RowGood M found F) As rs → RowsNumbers (length found) rs
-  rows-numbers F [] [] h = tt
-  rows-numbers F [] (r ∷ rs) h = absurd h
-  rows-numbers F (A ∷ As) [] h = absurd h
-  rows-numbers F (A ∷ As) (blocked ∷ rs) h = rows-numbers F As rs (h .1)
-  rows-numbers F (A ∷ As) (toNodes ns ∷ rs) h = (row-numbers F A (A .edges) ns (h .0), rows-numbers F As rs (h .1))
-
-  numbers-from : (Fs : List Found) (rows : List (List FoundRow)) → Pairwise (RowsGood M found) Fs rows → (n : ℕ) → n < length Fs →
-      RowsNumbers (length found) (getD rows n [])
-  numbers-from [] rows h n l = absurd (N.not-suc-le-zero l)
-  numbers-from (F ∷ Fs) [] h n l = absurd h
-  numbers-from (F ∷ Fs) (rs ∷ rows) h zero l = rows-numbers F (rowActions (locationAt M (F .location))) rs (h .0)
-  numbers-from (F ∷ Fs) (rs ∷ rows) h (suc n) l = numbers-from Fs rows (h .1) n (N.le-of-suc-le-suc l)
-
-pub found-numbers : {M : Model} {Fs : List Found} {rows : List (List FoundRow)} → AllFound M Fs rows → (n : ℕ) → n < length Fs →
-    RowsNumbers (length Fs) (getD rows n [])
-found-numbers {M} {Fs} {rows} h n l = numbers-from M Fs Fs rows (h .each) n l

@@ -2,18 +2,16 @@
 use Prim.Native.Nat.{ℕ, suc, _+_, _-_, _*_, _≤_, _<_}
 use mathlib.Core.Path.{_≡_, refl, sym, ap, _∙_}
 use mathlib.Core.Bool.{Bool, true, false, not}
-use mathlib.Core.List.{List, [], _∷_}
+use mathlib.Core.List.{List, [], _∷_, _++_}
 use native.Mathlib.Nat.{suc-mul}
 use native.Mathlib.Numerals.{add-one}
 use native.Mathlib.Omega.{arith}
-use lib.Dec.{ltb}
 use lib.ListN.{length, getD, set, take, length-append, length-set}
 use lib.Seq.{take-suc-set}
 use Rattle.zone.specs.Scale.{Zone}
 use Rattle.zone.specs.Squares.{listOf, resetSquare, empty?, inside?}
 use Rattle.zone.specs.Stores.{zoneAt}
 use Rattle.zone.specs.declared.zones.Zone.{Zone as Square}
-use Rattle.zone.proofs.Bools.{by-test}
 use Rattle.model.specs.Fields.{landsAt, maskOf}
 use Rattle.model.specs.Scan.{guardsAt}
 use Rattle.model.specs.Index.{Kept}
@@ -23,24 +21,22 @@ use Rattle.judge.specs.Reaching.{common}
 use Rattle.drafting.specs.Exploring.{narrow?}
 use Rattle.drafting.specs.Words.{frontWords}
 use Rattle.draft.specs.Fronts.{zoneFrom, FrontOf}
-use Rattle.draft.specs.Nodes.{frontsOf, StillHolds, Placing, placingOf, addedTo, knownOr, knownFrom, placedIn}
+use Rattle.draft.specs.Nodes.{frontsOf, StillHolds, Placing, placingOf, addedTo, placedIn}
 use Rattle.draft.specs.Exploration.{Drawing, drawingOf, goOnBy, goOn, codeOf, landedSquare, withPlaced, startDrawing}
 use Rattle.draft.specs.Exploration.{withSuccessor, successorsFrom, withRow, rowsFrom}
 use Rattle.draft.specs.Asked.{Roomy, Grown}
 use Rattle.draft.specs.declared.fronts.Front.{Front}
-use Rattle.draft.specs.declared.nodes.Known.{Known}
-use Rattle.draft.specs.declared.nodes.Known.the-variants as known
 use Rattle.draft.specs.declared.nodes.Stop.{Stop}
 use Rattle.draft.specs.declared.nodes.Stop.the-variants as stop
 use Rattle.draft.specs.declared.nodes.Placed.{Placed}
 use Rattle.draft.specs.declared.explore.Extent.{Extent}
-use Rattle.draft.proofs.NodeLaws.{fronts-length}
+use Rattle.draft.proofs.NodeLaws.{fronts-length, placed-keeps}
 
 -- the variants of a stop other than `None`, which is the first, as a `match` in the code numbers them
 abbrev pub stops : List ℕ
 stops = 1 ∷ 2 ∷ []
 
-pub ended : (s : Stop) (d e : Drawing) → (s ≡ stop.None → ⊥) → goOnBy s d e ≡ d
+pub ended : {A : Type 0} (s : Stop) (d e : A) → (s ≡ stop.None → ⊥) → goOnBy s d e ≡ d
 unfolding goOnBy
 ended stop.None d e n = absurd (n refl)
 ended stop.Nodes d e n = refl
@@ -71,28 +67,13 @@ front-placed {f} {l} {Z} fs h =
     placed-words (f .narrow) (take (f .size) (f .list)) (frontWords (record { location = l; zone = Z })) fs (h .words) ∙ rw (h .narrow)
 
 -- no node is lost
-module _ (ws : List ℕ) (fs : List (List ℕ)) where
-  added-more : (narrow : Bool) → length fs ≤ length (addedTo narrow ws fs .fronts)
-  unfolding addedTo
-  added-more narrow =
-      by-test (λ (p : Placing). length fs ≤ length (p .fronts)) (ltb (length fs) 64) _ _
-      (λ _. by-test (λ (p : Placing). length fs ≤ length (p .fronts)) narrow _ _ (λ _. let s = length-append fs (ws ∷ []) in omega arith) (λ _. omega arith))
-      (λ _. omega arith)
-
-  known-more : (k : Known) (narrow : Bool) → length fs ≤ length (knownOr k narrow ws fs .fronts)
-  unfolding knownOr
-  known-more (known.At n) narrow = omega arith
-  known-more known.Nothing narrow = added-more narrow
-
-  placed-more : (narrow : Bool) → length fs ≤ length (placedIn narrow ws fs .fronts)
-  unfolding placedIn
-  placed-more narrow =
-      by-test (λ (p : Placing). length fs ≤ length (p .fronts)) narrow _ _ (λ _. known-more (knownFrom ws 0 fs) narrow) (λ _. added-more narrow)
-
 pub count-more : (nodes nodes′ : List ℕ) (count : ℕ) (p : Placed) (narrow : Bool) (ws : List ℕ) →
     placingOf p nodes′ ≡ placedIn narrow ws (frontsOf nodes count) → count ≤ p .count
 count-more nodes nodes′ count p narrow ws e =
-    let g : length (frontsOf nodes count) ≤ length (frontsOf nodes′ (p .count)) = rw (ap (λ (q : Placing). length (q .fronts)) e) (placed-more ws (frontsOf nodes count) narrow) in
+    let fs : List (List ℕ) = frontsOf nodes count in
+    let more : length fs ≤ length (fs ++ (ws ∷ [])) = let s = length-append fs (ws ∷ []) in omega arith in
+    let g : length fs ≤ length (frontsOf nodes′ (p .count)) =
+    rw (ap (λ (q : Placing). length (q .fronts)) e) (placed-keeps (λ gs. length fs ≤ length gs) ws fs (omega arith) more narrow) in
     let a = fronts-length nodes count in
     let b = fronts-length nodes′ (p .count) in
     omega arith

@@ -13,22 +13,20 @@ use lib.Seq.{take-suc-set, length-take-le, getD-set-same, getD-set-other}
 use Rattle.zone.specs.Stores.{zoneAt}
 use Rattle.zone.specs.Reading.{readZone}
 use Rattle.zone.specs.declared.zones.Zone.{Zone as Square}
-use Rattle.zone.proofs.Integers.{lt-or-ge}
 use Rattle.model.specs.Index.{Kept}
 use Rattle.model.proofs.ZoneLaws.{same-at}
 use Rattle.table.specs.Fields.{locationOf}
 use Rattle.judge.specs.Reaching.{waitedSquare}
 use Rattle.draft.specs.Nodes.{frontAt, frontsOf, Holds}
-use Rattle.draft.specs.Exploration.{Drawing, drawingOf, rowsFrom, withNode, nodesFrom, exploredFrom, startDrawing, Explored, exploredAs, ExploredIn, goOnEnds}
+use Rattle.draft.specs.Exploration.{Drawing, drawingOf, rowsFrom, withNode, nodesFrom, exploredFrom, startDrawing, Explored, exploredAs, ExploredIn, goOnBy}
 use Rattle.draft.specs.Asked.{ModelAsked, Located, Roomy, Grown, EndsFit}
 use Rattle.draft.specs.Values.{beginOf}
 use Rattle.draft.specs.Writing.{FinishesAfter}
-use Rattle.draft.specs.declared.nodes.Stop.{Stop}
 use Rattle.draft.specs.declared.nodes.Stop.the-variants as stop
 use Rattle.draft.specs.declared.explore.Extent.{Extent}
-use Rattle.draft.proofs.NodeLaws.{fronts-length, fronts-at}
-use Rattle.draft.proofs.LocatedLaws.{located-node, located-start}
-use Rattle.draft.proofs.ExploreCode.{grown-none, one-left}
+use Rattle.draft.proofs.NodeLaws.{set-small, fronts-length, fronts-at}
+use Rattle.draft.proofs.LocatedLaws.{located-at, located-node, located-start}
+use Rattle.draft.proofs.ExploreCode.{ended, grown-none, one-left}
 
 -- ---- a node
 
@@ -38,10 +36,7 @@ module _ (nodes : List ℕ) (x : Extent) (n : ℕ) (h : n < x .nodes) where
 
   module _ {l : ℕ} (e : l ≡ locationOf (getD (frontAt nodes n) 0 0)) where
     pub node-located : {L : ℕ} → Located L (frontsOf nodes (x .nodes)) → l < L
-    node-located i =
-        let s = fronts-length nodes (x .nodes) in
-        let k = i .at n (omega arith) in
-        rw e (rw front-there at k)
+    node-located i = rw e (located-at nodes (x .nodes) n i h)
 
     module _ (m : Kept) (codes : List ℕ) where
       pub node-target : getD (m .index .targets) l false ≡ true → Roomy nodes codes x 128 →
@@ -57,12 +52,6 @@ module _ (nodes : List ℕ) (x : Extent) (n : ℕ) (h : n < x .nodes) where
       node-rows t ey ei ew = sym (rw (front-there, ← e, t, ← ey, ← ei, ← ew))
 
 -- ---- node by node
-
-pub stopped : (s : Stop) (d e : Explored) → (s ≡ stop.None → ⊥) → goOnEnds s d e ≡ d
-unfolding goOnEnds
-stopped stop.None d e n = absurd (n refl)
-stopped stop.Nodes d e n = refl
-stopped stop.Bounds d e n = refl
 
 -- the ends below n, with one more
 module _ (ends : List ℕ) (n v : ℕ) (room : n < length ends) where
@@ -84,14 +73,6 @@ module _ (ends : List ℕ) (n v : ℕ) (room : n < length ends) where
       by : (k ≡ n) ⊎ (k < n) → beginOf (set ends n v) k ≤ getD (set ends n v) k 0
       by (inl e) = rw (e, begin-kept n (omega arith), end-put) last
       by (inr l) = rw (begin-kept k (omega arith), end-kept k l) (rises k l)
-
-  ends-small : {b : ℕ} → ((k : ℕ) → getD ends k 0 ≤ b) → v ≤ b → (k : ℕ) → getD (set ends n v) k 0 ≤ b
-  ends-small {b} small h k = by (lt-or-ge k n) (lt-or-ge n k)
-    where
-      by : (k < n) ⊎ (n ≤ k) → (n < k) ⊎ (k ≤ n) → getD (set ends n v) k 0 ≤ b
-      by (inl l) q = rw (end-kept k l) (small k)
-      by (inr l) (inl q) = rw (getD-set-other ends n k v 0 (λ e. omega arith)) (small k)
-      by (inr l) (inr q) = let e : k ≡ n = omega arith in rw (e, end-put) h
 
 module _ (m : Kept) where
   -- before the node n: the nodes before it are explored, and all of it comes to `goal`. The stores are as long as at first
@@ -172,7 +153,7 @@ module _ (m : Kept) where
           length-take-le (y .codes) codes′ (omega arith)
 
       one-node : goal ≡
-          goOnEnds (y .stop) (exploredAs (drawingOf y nodes′ codes′) (take n ends))
+          goOnBy (y .stop) (exploredAs (drawingOf y nodes′ codes′) (take n ends))
           (nodesFrom m (64 - suc n) (suc n) (take n ends ++ (y .codes ∷ [])) (drawingOf y nodes′ codes′))
       unfolding nodesFrom
       one-node =
@@ -182,14 +163,14 @@ module _ (m : Kept) where
       pub node-stops : (y .stop ≡ stop.None → ⊥) → ExploredIn nodes′ codes′ ends y goal ×
           ((Holds nodes′ (y .nodes) × Located (m .index .locations) (frontsOf nodes′ (y .nodes)) × (y .codes ≤ 8192)) × FinishesAfter nodes′ codes′ ends y)
       node-stops un =
-          let q : goal ≡ exploredAs (drawingOf y nodes′ codes′) (take n ends) = one-node ∙ stopped (y .stop) _ _ un in
+          let q : goal ≡ exploredAs (drawingOf y nodes′ codes′) (take n ends) = one-node ∙ ended (y .stop) _ _ un in
           let few = codes-few in (
             record { drawingIs = rw q; endsAre = λ is. absurd (un is) },
             ((g .holds, located-still, omega arith), record { finishes = λ is. absurd (un is) }),
           )
 
       pub node-next : y .stop ≡ stop.None → AtNode nodes₀ codes₀ ends₀ goal nodes′ codes′ (set ends n (y .codes)) y (n + 1)
-      unfolding goOnEnds beginOf
+      unfolding goOnBy beginOf
       node-next is =
           let few = codes-few in
           let room = i .fits .ends in
@@ -210,7 +191,7 @@ module _ (m : Kept) where
             few = few;
             fits = record {
               codes = omega arith;
-              limits = ends-small ends n (y .codes) (omega arith) (i .fits .limits) (omega arith);
+              limits = λ k. set-small ends n (y .codes) k (i .fits .limits) (omega arith);
               ends = omega arith;
             };
             rises = ends-rise ends n (y .codes) (omega arith) (i .rises) (omega arith);
@@ -225,7 +206,7 @@ module _ (m : Kept) (y : Square) (nodes : List ℕ) (x : Extent) (e : drawingOf 
 
   -- all of it, by what `explore` is asked for
   pub explored-on : (codes : List ℕ) → x .codes ≡ 0 → x .stop ≡ stop.None → nodesFrom m 64 0 [] (drawingOf x nodes codes) ≡ exploredFrom m y
-  unfolding exploredFrom goOnEnds
+  unfolding exploredFrom goOnBy
   explored-on codes none is =
       let f : drawingOf x nodes codes ≡ drawingOf x nodes [] = rw none in
       let s : startDrawing (m .index) y .stop ≡ stop.None = sym (ap (λ (d : Drawing). d .stop) e) ∙ is in
@@ -233,7 +214,7 @@ module _ (m : Kept) (y : Square) (nodes : List ℕ) (x : Extent) (e : drawingOf 
 
   pub explored-not : (x .stop ≡ stop.None → ⊥) → exploredAs (startDrawing (m .index) y) [] ≡ exploredFrom m y
   unfolding exploredFrom
-  explored-not un = sym (stopped (startDrawing (m .index) y .stop) _ _ (λ q. un (ap (λ (d : Drawing). d .stop) e ∙ q)))
+  explored-not un = sym (ended (startDrawing (m .index) y .stop) _ _ (λ q. un (ap (λ (d : Drawing). d .stop) e ∙ q)))
 
 -- before exploring no node has codes
 pub no-ends : (codes : List ℕ) (n : ℕ) → 8192 + 128 ≤ length codes → 64 ≤ n → EndsFit codes (replicate n 0)

@@ -27,7 +27,7 @@ use Rattle.drafting.proofs.ExploreLaws.{Ready, Grown, grown-ready, grown-trans,
 use Rattle.drafting.proofs.ValuedRows.{ValuedAll}
 use Rattle.draft.specs.Fronts.{zoneFrom}
 use Rattle.draft.specs.Nodes.{Placing}
-use Rattle.draft.specs.Exploration.{Drawing, drawing, withNode, Explored, exploredAs, goOnEnds, startDrawing, exploredFrom}
+use Rattle.draft.specs.Exploration.{Drawing, drawing, withNode, Explored, exploredAs, goOnBy, startDrawing, exploredFrom}
 use Rattle.draft.specs.Exploration.{nodesFrom as exploredNodes}
 use Rattle.draft.specs.declared.nodes.Stop.the-variants as stop
 use Rattle.draft.proofs.Coding.{Coded}
@@ -47,8 +47,8 @@ ends-then : {A : Type 0} {P : Answer (Progress A) → Type 0} {Q : Progress A �
     Draws P Q d → (P (refused 58 0) → P′ (refused 58 0)) → (P (refused 59 0) → P′ (refused 59 0)) →
     ((s : Progress A) (cs : List ℕ) → P (accepted s) → Q s cs →
     DrawsNodes M P′ n before endsBefore (f (drawing stop.None (map frontWords (s .found)) cs))) →
-    DrawsNodes M P′ n before endsBefore (goOnEnds (d .stop) (exploredAs d endsBefore) (f d))
-unfolding goOnEnds
+    DrawsNodes M P′ n before endsBefore (goOnBy (d .stop) (exploredAs d endsBefore) (f d))
+unfolding goOnBy
 ends-then M P′ n before endsBefore f (drawn s cs p q) nodes bounds go = go s cs p q
 ends-then M P′ n before endsBefore f (endedNodes fs cs p) nodes bounds go = endedNodes fs cs (nodes p)
 ends-then M P′ n before endsBefore f (endedBounds fs cs p) nodes bounds go = endedBounds fs cs (bounds p)
@@ -80,7 +80,7 @@ module _ {M : Model} {m : Kept} (x : Indexed M m) (good : GoodModel M) (formed :
           ((later : List Found) → Ready M later → (ds ends : List ℕ) →
           DrawsNodes M (nodesFrom M k (suc n) later) (suc n) ds ends (exploredNodes m k (suc n) ends (drawing stop.None (map frontWords later) ds))) →
           DrawsNodes M (nodesFrom M (suc k) n found) n cs endsBefore
-          (cond c (goOnEnds (next .stop) (exploredAs next endsBefore) (more next))
+          (cond c (goOnBy (next .stop) (exploredAs next endsBefore) (more next))
           (exploredAs (drawing stop.None (map frontWords found) cs) endsBefore))
       by false e rest =
           let over : length found ≤ n = ltb-false n (length found) e in

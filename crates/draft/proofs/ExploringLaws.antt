@@ -24,7 +24,7 @@ use Rattle.model.proofs.WellFormed.{FormedEdge, WellFormed}
 use Rattle.table.specs.Table.{rowActions}
 use Rattle.judge.specs.Reaching.{waitedSquare}
 use Rattle.judge.proofs.RowReach.{rowReach, Reached, reached}
-use Rattle.judge.proofs.RowLaws.{ActionIs, actions-at, actions-count, edges-at}
+use Rattle.judge.proofs.RowLaws.{all-below, ActionIs, actions-at, actions-count, edges-at}
 use Rattle.drafting.specs.Exploring.{Found, blocked, toNodes, Progress, done, andThen, noFound, nodeFor, asNode, successorFor, successorsFor, rowFor, rowsFor}
 use Rattle.drafting.specs.Words.{boundWord, frontWords}
 use Rattle.drafting.proofs.BoundingLaws.{own-bounds}
@@ -36,11 +36,12 @@ use Rattle.draft.specs.Fronts.{zoneFrom}
 use Rattle.draft.specs.Nodes.{Placing}
 use Rattle.draft.specs.Exploration.{drawing, goOnBy, outside?, landedSquare, withPlaced, withSuccessor, successorsFrom, withRow, rowsFrom, withNode}
 use Rattle.draft.specs.declared.nodes.Stop.the-variants as stop
+use Rattle.draft.proofs.NodeLaws.{map-at}
 use Rattle.draft.proofs.Coding.{shareCodes, rowsCodes}
 use Rattle.draft.proofs.LimitLaws.{SquareFor}
 use Rattle.draft.proofs.SmallestLaws.{zone-bounds, zone-smallest}
 use Rattle.draft.proofs.LandedLaws.{landed-square, landed-tells}
-use Rattle.draft.proofs.PlacingLaws.{front-at, writable-at, front-location, Places, placed, fullNodes, farBounds, placed-right}
+use Rattle.draft.proofs.PlacingLaws.{front-location, Places, placed, fullNodes, farBounds, placed-right}
 use Rattle.draft.proofs.DrawingLaws.{Draws, drawn, endedNodes, endedBounds, draws-as, draws-result, draws-then, EdgeDrawn, EdgesDrawn, RowDrawn, RowsDrawn}
 use Rattle.draft.proofs.DrawingLaws.{edge-cons, row-cons}
 
@@ -171,7 +172,7 @@ module _ {M : Model} {m : Kept} (x : Indexed M m) (good : GoodModel M) (formed :
   unfolding withNode rowActions rowsFrom Each
   node-right found ready n h cs =
       rw (
-        front-at found n h,
+        map-at frontWords noFound [] found n h,
         front-location F (omega (arith, w .location, few-locations)),
         front-zone (M .clocks) (formed .clocks) F (w .zone) (x .clocks),
         location-at x (F .location) (w .location) .target,
@@ -183,7 +184,7 @@ module _ {M : Model} {m : Kept} (x : Indexed M m) (good : GoodModel M) (formed :
       F = getD found n noFound
 
       w : Writable M F
-      w = writable-at (ready .all) n h
+      w = all-below noFound n (ready .all) h
 
       L : Location
       L = locationAt M (F .location)

@@ -27,10 +27,10 @@ use Rattle.judge.specs.Reaching.{common}
 use Rattle.judge.proofs.RowReach.{rowReach, landings-span, landings-tight, part-fits, reached}
 use Rattle.judge.proofs.OutsideLaws.{somewhere}
 use Rattle.drafting.specs.Exploring.{Found, asNode, startZone}
+use Rattle.drafting.proofs.BoundingLaws.{within-append}
 use Rattle.drafting.proofs.ValuedRows.{Tells}
 use Rattle.draft.specs.Exploration.{outside?, landedSquare}
 use Rattle.draft.proofs.LimitLaws.{SquareFor, isFilled, square-tightened}
-use Rattle.draft.proofs.SmallestLaws.{within-append}
 
 -- a region that lies inside another, with that one
 spans-inside : {R S : Region} {z : Square} → Inside R S → Spans R z → Spans (inBoth R S) z

@@ -7,7 +7,6 @@ use mathlib.Core.List.{List, [], _∷_, _++_}
 use native.Mathlib.Nat.{eq-or-lt-of-le, not-suc-le-zero}
 use native.Mathlib.Numerals.{add-one}
 use native.Mathlib.Omega.{arith}
-use lib.Dec.{ltb}
 use lib.ListN.{length, getD, length-append, List·getD-append}
 use lib.Seq.{getD-append-seam}
 use Rattle.zone.specs.Squares.{resetSquare, empty?}
@@ -22,16 +21,22 @@ use Rattle.table.specs.Fields.{locationOf}
 use Rattle.table.specs.Scan.{edgesAt}
 use Rattle.judge.specs.Reaching.{common}
 use Rattle.drafting.specs.Words.{frontWords}
-use Rattle.draft.proofs.PlacingLaws.{front-location}
 use Rattle.draft.specs.Fronts.{zoneFrom}
-use Rattle.draft.specs.Nodes.{Placing, addedTo, knownOr, knownFrom, placedIn}
+use Rattle.draft.specs.Nodes.{frontAt, frontsOf, placedIn}
 use Rattle.draft.specs.Exploration.{Drawing, goOnBy, withPlaced, landedSquare, startDrawing}
 use Rattle.draft.specs.Exploration.{withSuccessor, successorsFrom, withRow, rowsFrom, withNode}
 use Rattle.draft.specs.Asked.{ActionAsked, ModelAsked, Located}
-use Rattle.draft.specs.declared.nodes.Known.{Known}
-use Rattle.draft.specs.declared.nodes.Known.the-variants as known
 use Rattle.draft.specs.declared.nodes.Stop.{Stop}
 use Rattle.draft.specs.declared.nodes.Stop.the-variants as stop
+use Rattle.draft.proofs.NodeLaws.{fronts-length, fronts-at, placed-keeps}
+use Rattle.draft.proofs.PlacingLaws.{front-location}
+
+-- the location of each node is there
+pub located-at : {L : ℕ} (nodes : List ℕ) (count n : ℕ) → Located L (frontsOf nodes count) → n < count →
+    locationOf (getD (frontAt nodes n) 0 0) < L
+located-at nodes count n l h =
+    let there : n < length (frontsOf nodes count) = rw (fronts-length nodes count) h in
+    rw (fronts-at nodes count n h) at (l .at n there)
 
 -- ---- the words of a node
 
@@ -48,21 +53,8 @@ module _ (L : ℕ) where
         by n (inl e) = rw (e, getD-append-seam fs ws [] []) at
         by n (inr l) = rw (List·getD-append fs (ws ∷ []) [] n l) (i .at n l)
 
-    located-added : (narrow : Bool) → Located L (addedTo narrow ws fs .fronts)
-    unfolding addedTo
-    located-added narrow =
-        by-test (λ (p : Placing). Located L (p .fronts)) (ltb (length fs) 64) _ _
-        (λ _. by-test (λ (p : Placing). Located L (p .fronts)) narrow _ _ (λ _. located-more) (λ _. i)) (λ _. i)
-
-    located-known : (k : Known) (narrow : Bool) → Located L (knownOr k narrow ws fs .fronts)
-    unfolding knownOr
-    located-known (known.At n) narrow = i
-    located-known known.Nothing narrow = located-added narrow
-
-    pub located-placed : (narrow : Bool) → Located L (placedIn narrow ws fs .fronts)
-    unfolding placedIn
-    located-placed narrow =
-        by-test (λ (p : Placing). Located L (p .fronts)) narrow _ _ (λ _. located-known (knownFrom ws 0 fs) narrow) (λ _. located-added narrow)
+    located-placed : (narrow : Bool) → Located L (placedIn narrow ws fs .fronts)
+    located-placed = placed-keeps (Located L) ws fs i located-more
 
   located-going : (s : Stop) (d e : Drawing) → Located L (d .fronts) → Located L (e .fronts) → Located L (goOnBy s d e .fronts)
   unfolding goOnBy

@@ -1,22 +1,38 @@
 -- Laws of the nodes in a store: the words of a node, the nodes after one more is put behind them, and the search for a known node. Assumes nothing.
-use Prim.Native.Nat.{ℕ, zero, suc, _+_, _*_, _-_, _≤_, _<_}
+use Prim.Native.Nat.{ℕ, zero, suc, _+_, _*_, _-_, _≤_, _<_, zero-le}
 use mathlib.Core.Path.{_≡_, refl, sym, ap, ap₂, _∙_}
 use mathlib.Core.Bool.{Bool, true, false, cond, _&&_}
-use mathlib.Core.List.{List, [], _∷_, _++_}
+use mathlib.Core.List.{List, [], _∷_, _++_, map}
 use mathlib.Core.Logic.{_⊎_, inl, inr}
-use native.Mathlib.Nat.{add-zero, add-suc, suc-add, zero-add}
+use native.Mathlib.Nat.{add-zero, add-suc, suc-add, zero-add, not-suc-le-zero, le-of-suc-le-suc}
 use native.Mathlib.Numerals.{add-one}
 use native.Mathlib.Omega.{arith}
 use borrow.Author.Tests.{eq-eqb, ne-eqb, lt-ltb, le-ltb}
-use lib.Dec.{eqb}
+use lib.Dec.{eqb, ltb}
 use lib.ListN.{length, getD, take, drop, set, length-drop, length-set, drop-of-length-le}
 use lib.Seq.{getD-take, getD-drop, getD-set-same, getD-set-other, length-take-le, drop-cons, drop-drop, take-nil, ext-getD}
 use Rattle.zone.specs.Squares.{listOf}
+use Rattle.zone.proofs.Bools.{by-test}
 use Rattle.zone.proofs.Loops.{listOf-length, listOf-at, listOf-same}
 use Rattle.zone.proofs.Integers.{lt-or-ge}
-use Rattle.draft.specs.Nodes.{frontAt, frontsOf, HasNode, Holds, StillHolds, sameWords?, knownFrom, addedTo, placedIn, knownOr}
+use Rattle.draft.specs.Nodes.{frontAt, frontsOf, HasNode, Holds, StillHolds, sameWords?, knownFrom, Placing, addedTo, placedIn, knownOr}
+use Rattle.draft.specs.declared.nodes.Known.{Known}
 use Rattle.draft.specs.declared.nodes.Known.the-variants as known
 use Rattle.draft.specs.declared.nodes.Stop.the-variants as stop
+
+-- ---- lists
+pub map-at : {A B : Type 0} (f : A → B) (d : A) (e : B) (xs : List A) (i : ℕ) → i < length xs → getD (map f xs) i e ≡ f (getD xs i d)
+map-at f d e [] i h = absurd (not-suc-le-zero h)
+map-at f d e (x ∷ xs) zero h = refl
+map-at f d e (x ∷ xs) (suc i) h = map-at f d e xs i (le-of-suc-le-suc h)
+
+-- a bound of all elements stays one
+pub set-small : {b : ℕ} (vs : List ℕ) (i v n : ℕ) → ((k : ℕ) → getD vs k 0 ≤ b) → v ≤ b → getD (set vs i v) n 0 ≤ b
+set-small [] i v n all low = zero-le
+set-small (x ∷ xs) zero v zero all low = low
+set-small (x ∷ xs) zero v (suc n) all low = all (suc n)
+set-small (x ∷ xs) (suc i) v zero all low = all zero
+set-small (x ∷ xs) (suc i) v (suc n) all low = set-small xs i v n (λ k. all (suc k)) low
 
 -- ---- the words of a node
 pub front-length : (nodes : List ℕ) (n : ℕ) → HasNode nodes n → length (frontAt nodes n) ≡ getD nodes (n * 27) 0
@@ -262,3 +278,21 @@ module _ (narrow : Bool) (ws : List ℕ) (fs : List (List ℕ)) where
   pub placed-wide : narrow ≡ false → addedTo narrow ws fs ≡ placedIn narrow ws fs
   unfolding placedIn
   placed-wide e = rw e
+
+-- what holds of the nodes before, and with the new one, holds of the nodes after
+module _ (P : List (List ℕ) → Type 0) (ws : List ℕ) (fs : List (List ℕ)) (old : P fs) (new : P (fs ++ (ws ∷ []))) where
+  added-keeps : (narrow : Bool) → P (addedTo narrow ws fs .fronts)
+  unfolding addedTo
+  added-keeps narrow =
+      by-test (λ (p : Placing). P (p .fronts)) (ltb (length fs) 64) _ _
+      (λ _. by-test (λ (p : Placing). P (p .fronts)) narrow _ _ (λ _. new) (λ _. old)) (λ _. old)
+
+  known-keeps : (k : Known) (narrow : Bool) → P (knownOr k narrow ws fs .fronts)
+  unfolding knownOr
+  known-keeps (known.At n) narrow = old
+  known-keeps known.Nothing narrow = added-keeps narrow
+
+  pub placed-keeps : (narrow : Bool) → P (placedIn narrow ws fs .fronts)
+  unfolding placedIn
+  placed-keeps narrow =
+      by-test (λ (p : Placing). P (p .fronts)) narrow _ _ (λ _. known-keeps (knownFrom ws 0 fs) narrow) (λ _. added-keeps narrow)

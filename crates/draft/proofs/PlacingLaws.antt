@@ -1,6 +1,6 @@
 -- The node that front words find or add is the one that valuations ask for. Assumes nothing.
 use Prim.Native.Nat.{ℕ, zero, suc, _+_, _≤_, _<_, zero-le, suc-le-suc}
-use mathlib.Core.Path.{_≡_, refl, sym, ap, subst, _∙_}
+use mathlib.Core.Path.{_≡_, refl, sym, ap, ap₂, subst, _∙_}
 use mathlib.Core.Logic.{inl, inr}
 use mathlib.Core.Bool.{Bool, true, false, cond}
 use mathlib.Core.List.{List, [], _∷_, _++_, map, map-append}
@@ -15,9 +15,9 @@ use Rattle.zone.specs.Words.{zoneOf}
 use Rattle.zone.specs.Checks.{Answer, refused, accepted, test, First}
 use Rattle.zone.proofs.Bools.{false-true, true-false, left-true, right-true}
 use Rattle.model.specs.Model.{Model}
-use Rattle.model.proofs.ZoneLaws.{All, empty, more}
 use Rattle.model.proofs.WellFormed.{WellFormed}
 use Rattle.table.specs.Fields.{locationOf}
+use Rattle.judge.proofs.RowLaws.{all-below}
 use Rattle.drafting.specs.Bounding.{BoundsOf}
 use Rattle.drafting.specs.Exploring.{Found, Progress, noFound, Known, narrow?, newChecks, nodeFor}
 use Rattle.drafting.specs.Words.{frontWords}
@@ -28,6 +28,7 @@ use Rattle.draft.specs.Nodes.{sameWords?, knownFrom, Placing, addedTo, k
 use Rattle.draft.specs.declared.nodes.Known.{Known as Lookup}
 use Rattle.draft.specs.declared.nodes.Known.the-variants as known
 use Rattle.draft.specs.declared.nodes.Stop.the-variants as stop
+use Rattle.draft.proofs.NodeLaws.{map-at}
 
 -- ---- equal words
 
@@ -37,10 +38,7 @@ words-equal [] [] e = refl
 words-equal [] (y ∷ ys) e = false-true e
 words-equal (x ∷ xs) [] e = false-true e
 words-equal (x ∷ xs) (y ∷ ys) e =
-    cons (eqb-true x y (left-true (eqb x y) (sameWords? xs ys) e)) (words-equal xs ys (right-true (eqb x y) (sameWords? xs ys) e))
-  where
-    cons : x ≡ y → xs ≡ ys → _≡_ {A = List ℕ} (x ∷ xs) (y ∷ ys)
-    cons p q = rw (p, q)
+    ap₂ _∷_ (eqb-true x y (left-true (eqb x y) (sameWords? xs ys) e)) (words-equal xs ys (right-true (eqb x y) (sameWords? xs ys) e))
 
 equal-words : (xs ys : List ℕ) → xs ≡ ys → sameWords? xs ys ≡ true
 unfolding sameWords?
@@ -80,16 +78,6 @@ module _ (ws : List ℕ) where
           before (suc j) h e = s .4 j (N.le-of-suc-le-suc h) e
 
 -- ---- the nodes found, by their front words
-
-pub front-at : (Fs : List Found) (i : ℕ) → i < length Fs → getD (map frontWords Fs) i [] ≡ frontWords (getD Fs i noFound)
-front-at [] i h = absurd (N.not-suc-le-zero h)
-front-at (F ∷ Fs) zero h = refl
-front-at (F ∷ Fs) (suc i) h = front-at Fs i (N.le-of-suc-le-suc h)
-
-pub writable-at : {M : Model} {found : List Found} → All (Writable M) found → (i : ℕ) → i < length found → Writable M (getD found i noFound)
-writable-at empty i h = absurd (N.not-suc-le-zero h)
-writable-at (more w ws) zero h = w
-writable-at (more w ws) (suc i) h = writable-at ws i (N.le-of-suc-le-suc h)
 
 -- the location in the first word, and the bounds in the others
 pub front-location : (F : Found) → F .location < 16 → locationOf (getD (frontWords F) 0 0) ≡ F .location
@@ -154,10 +142,10 @@ module _ {M : Model} (formed : WellFormed M) (few : length (M .locations) ≤ 16
 
   -- a known node has the same bounds
   known-zone : (n : ℕ) → Known found l Z n → getD found n noFound .zone ≡ Z
-  known-zone n k = bounds-one (M .clocks) (getD found n noFound .zone) Z (k .same) (writable-at (ready .all) n (k .there) .own) own
+  known-zone n k = bounds-one (M .clocks) (getD found n noFound .zone) Z (k .same) (all-below noFound n (ready .all) (k .there) .own) own
 
   known-words : (n : ℕ) → Known found l Z n → getD (map frontWords found) n [] ≡ frontWords G
-  known-words n k = front-at found n (k .there) ∙ ap frontWords (made (getD found n noFound) (k .location) (known-zone n k))
+  known-words n k = map-at frontWords noFound [] found n (k .there) ∙ ap frontWords (made (getD found n noFound) (k .location) (known-zone n k))
     where
       made : (F : Found) → F .location ≡ l → F .zone ≡ Z → F ≡ G
       made F e f = rw (← e, ← f) refl
@@ -170,10 +158,10 @@ module _ {M : Model} (formed : WellFormed M) (few : length (M .locations) ≤ 16
       F = getD found n noFound
 
       w : Writable M F
-      w = writable-at (ready .all) n h
+      w = all-below noFound n (ready .all) h
 
       words : frontWords F ≡ frontWords G
-      words = sym (front-at found n h) ∙ e
+      words = sym (map-at frontWords noFound [] found n h) ∙ e
 
       location : F .location ≡ l
       location =
@@ -207,4 +195,4 @@ module _ {M : Model} (formed : WellFormed M) (few : length (M .locations) ≤ 16
       by false e =
           added-right (M .clocks) l Z Z found own
           (λ n k. true-false
-          (sym (fit-narrow (M .clocks) Z (subst (AllFit (M .clocks)) (known-zone n k) (writable-at (ready .all) n (k .there) .zone))) ∙ e))
+          (sym (fit-narrow (M .clocks) Z (subst (AllFit (M .clocks)) (known-zone n k) (all-below noFound n (ready .all) (k .there) .zone))) ∙ e))

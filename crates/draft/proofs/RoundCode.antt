@@ -2,12 +2,12 @@
 use Prim.Native.Nat.{ℕ, zero, suc, _+_, _-_, _*_, _%_, _^_, _≤_, _<_, max, zero-le}
 use mathlib.Core.Path.{_≡_, refl, sym, ap, ap₂, _∙_}
 use mathlib.Core.Bool.{Bool, true, false}
-use mathlib.Core.List.{List, [], _∷_}
+use mathlib.Core.List.{List}
 use native.Mathlib.Nat as N
 use native.Mathlib.Numerals.{add-one}
 use native.Mathlib.Omega.{arith}
 use borrow.Author.Tests.{eq-eqb, ne-eqb}
-use lib.ListN.{getD, set, length, replicate, length-set, length-replicate}
+use lib.ListN.{getD, set, replicate, length-set, length-replicate}
 use lib.Seq.{set-getD}
 use Rattle.zone.proofs.Bools.{true-false}
 use Rattle.model.specs.Fields.{weightOf}
@@ -17,11 +17,11 @@ use Rattle.table.specs.Scan.{edgesAt}
 use Rattle.drafting.specs.Words.{whole}
 use Rattle.drafting.specs.Rounds.{roundedUp}
 use Rattle.drafting.proofs.RoundLaws.{all-limited}
-use Rattle.draft.specs.Nodes.{frontAt, frontsOf}
-use Rattle.draft.specs.Asked.{weightsFrom, EdgesAsked, RoundsAsked, Located, ValuesFit, EndsFit}
+use Rattle.draft.specs.Nodes.{frontAt}
+use Rattle.draft.specs.Asked.{weightsFrom, EdgesAsked, RoundsAsked, ValuesFit, EndsFit}
 use Rattle.draft.specs.Values.{sumFrom, largestFrom, valueAt, beginOf, roundBelow, roundsOf, valuesOf}
 use Rattle.draft.proofs.ValueLaws.{below-past}
-use Rattle.draft.proofs.NodeLaws.{fronts-length, fronts-at}
+use Rattle.draft.proofs.NodeLaws.{set-small}
 
 -- where the codes of a node begin, behind the first
 pub begin-later : (ends : List ℕ) (n : ℕ) → (n ≡ 0 → ⊥) → getD ends (n - 1) 0 ≡ beginOf ends n
@@ -142,22 +142,8 @@ module _ (es codes vs : List ℕ) where
 
 -- ---- a round
 
-set-limited : (vs : List ℕ) (i v n : ℕ) → ((k : ℕ) → getD vs k 0 ≤ whole) → v ≤ whole → getD (set vs i v) n 0 ≤ whole
-set-limited [] i v n all low = zero-le
-set-limited (x ∷ xs) zero v zero all low = low
-set-limited (x ∷ xs) zero v (suc n) all low = all (suc n)
-set-limited (x ∷ xs) (suc i) v zero all low = all zero
-set-limited (x ∷ xs) (suc i) v (suc n) all low = set-limited xs i v n (λ k. all (suc k)) low
-
 set-fits : {vs : List ℕ} (i v : ℕ) → ValuesFit vs → v ≤ whole → ValuesFit (set vs i v)
-set-fits {vs} i v fit low = record { size = length-set vs i v ∙ fit .size; small = λ n. set-limited vs i v n (fit .small) low }
-
--- the location of each node is there
-pub located-at : {L : ℕ} (nodes : List ℕ) (count n : ℕ) → Located L (frontsOf nodes count) → n < count →
-    locationOf (getD (frontAt nodes n) 0 0) < L
-located-at nodes count n l h =
-    let there : n < length (frontsOf nodes count) = rw (fronts-length nodes count) h in
-    rw (fronts-at nodes count n h) at (l .at n there)
+set-fits {vs} i v fit low = record { size = length-set vs i v ∙ fit .size; small = λ n. set-small vs i v n (fit .small) low }
 
 module _ (x : Index) (es nodes codes ends : List ℕ) where
   -- the values of the first n nodes are replaced, and whether one has changed is known

@@ -1,7 +1,7 @@
 -- The zone that is collected from the square table of a region has the bounds of the region, and is the smallest that holds it. Assumes nothing.
 use Prim.Native.Nat.{ℕ, _≤_}
 use mathlib.Core.Path.{_≡_, refl, sym, subst, subst₂}
-use mathlib.Core.Logic.{_↔_, inl, inr}
+use mathlib.Core.Logic.{inl, inr}
 use mathlib.Core.Bool.{Bool, true, false, cond}
 use mathlib.Core.List.{List, [], _∷_, _++_}
 use native.Mathlib.Omega.{arith}
@@ -18,19 +18,9 @@ use Rattle.zone.proofs.KeyLaws.{limitOf, boundLimit, said-holds, →holds}
 use Rattle.zone.proofs.SquareTables.{tableOf, table-at, nonempty-ok}
 use Rattle.zone.proofs.Spans.{Spans, Tight}
 use Rattle.drafting.specs.Bounding.{Bounds, Pair, pairs, AllTightened, BoundsOf, Over, Smallest}
-use Rattle.drafting.proofs.BoundingLaws.{all-hold, PairsOver, pairs-over, Among, among-pairs, smallest-emptyZone}
+use Rattle.drafting.proofs.BoundingLaws.{within-append, all-hold, PairsOver, pairs-over, Among, among-pairs, smallest-emptyZone}
 use Rattle.draft.specs.Fronts.{boundAt, collected, zoneFrom}
 use Rattle.draft.proofs.LimitLaws.{SquareFor, isEmpty, isFilled, has-some, looser, collected-tightened}
-
--- the bounds of two lists together
-pub within-append : (Y Z : Zone) (k : ℕ) (v : Valuation) → within (Y ++ Z) k v ↔ (within Y k v × within Z k v)
-unfolding within in?
-within-append [] Z k v = ((λ h. (tt, h)), λ h. h .1)
-within-append (b ∷ Y) Z k v =
-    let (f, g) = within-append Y Z k v in (
-      (λ h. let (p, q) = both (holds? k v b) (in? k v (Y ++ Z)) h in (and (holds? k v b) (in? k v Y) p (f q .0), f q .1)),
-      λ h. let (p, q) = both (holds? k v b) (in? k v Y) (h .0) in and (holds? k v b) (in? k v (Y ++ Z)) p (g (q, h .1)),
-    )
 
 -- what the collected bounds say
 collected-holds : (y : Square) (ps : List Pair) (k : ℕ) (v : Valuation) → within (collected y ps) k v → (i j : ℕ) → Among i j ps →

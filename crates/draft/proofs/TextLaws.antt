@@ -9,10 +9,11 @@ use borrow.Author.Tests.{ne-eqb}
 use lib.ListN.{getD, length, take, drop}
 use lib.Seq.{slice, length-take-le, take-append-seam, getD-take}
 use Rattle.model.specs.Model.{Edge, Action, Model}
+use Rattle.model.proofs.WellFormed.{WellFormed}
 use Rattle.drafting.specs.Exploring.{Found, FoundRow, noFound}
 use Rattle.drafting.specs.Words.{whole, word, rowWords, rowsWords, nodeWords, nodesWords, wordsOf}
 use Rattle.drafting.proofs.Shares.{Share, Valued}
-use Rattle.drafting.proofs.ReadBack.{Numbers}
+use Rattle.drafting.proofs.ReadBack.{Numbers, RowsWritable}
 use Rattle.drafting.proofs.ExploreLaws.{AllFound}
 use Rattle.drafting.proofs.ValuedRows.{
   SharesOf,
@@ -27,11 +28,12 @@ use Rattle.drafting.proofs.ValuedRows.{
   nextNode,
   valued-at,
 }
+use Rattle.drafting.proofs.DraftTable.{rows-writable}
 use Rattle.draft.specs.Exploration.{codeOf}
 use Rattle.draft.specs.Values.{beginOf}
 use Rattle.draft.specs.Writing.{rowWord, nodeText, nodesText, draftText}
 use Rattle.draft.proofs.Coding.{shareCodes, rowsCodes}
-use Rattle.draft.proofs.CodeLaws.{Stored, StoredAt, stored-at, RowsNumbers, found-numbers}
+use Rattle.draft.proofs.CodeLaws.{Stored, StoredAt, stored-at}
 
 -- ---- a code has the number of its node
 row-word : (n : ℕ) (o : Bool) → n < 64 → rowWord (codeOf n o) ≡ word 11 n
@@ -52,13 +54,13 @@ module _ (count : ℕ) (few : count ≤ 64) {M : Model} {F : Found} where
       ap₂ _∷_ (ap (λ (k : ℕ). rowWord (codeOf k (s .outside))) (h .node) ∙ row-word n (s .outside) (N.lt-of-lt-of-le (g .0) few))
       (shares-words hs (g .1))
 
-  rows-words : {As : List Action} {rs : List FoundRow} {sss : List (List Share)} → ShareRows M F As rs sss → RowsNumbers count rs →
+  rows-words : {As : List Action} {rs : List FoundRow} {sss : List (List Share)} → ShareRows M F As rs sss → RowsWritable count As rs →
       map rowWord (rowsCodes rs sss) ≡ rowsWords rs
   unfolding rowsCodes rowsWords rowWords rowWord
   rows-words noRow g = refl
-  rows-words (passBlocked h) g = ap (λ (ws : List ℕ). word 10 0 ∷ ws) (rows-words h g)
+  rows-words (passBlocked h) g = ap (λ (ws : List ℕ). word 10 0 ∷ ws) (rows-words h (g .1))
   rows-words (nextRow {ss = ss} {rs = rs} {sss} s h) g =
-      map-append rowWord (shareCodes ss) (rowsCodes rs sss) ∙ ap₂ _++_ (shares-words s (g .0)) (rows-words h (g .1))
+      map-append rowWord (shareCodes ss) (rowsCodes rs sss) ∙ ap₂ _++_ (shares-words s (g .0 .2)) (rows-words h (g .1))
 
 -- ---- the codes of a node
 slice-take : (b n : ℕ) (l : List ℕ) → drop b (take (b + n) l) ≡ take n (drop b l)
@@ -102,10 +104,10 @@ rows-length (nextNode h hs) = ap suc (rows-length hs)
 
 -- the words put together from the stores, with the values vs
 pub text-right : {M : Model} {Fs : List Found} {rows : List (List FoundRow)} {qs : List Valued} {nodes codes ends : List ℕ} {count used : ℕ} →
-    AllFound M Fs rows → ValuedAll M Fs rows qs → Stored Fs rows qs nodes codes ends count used → (vs : List ℕ) → count ≤ length vs →
+    WellFormed M → AllFound M Fs rows → ValuedAll M Fs rows qs → Stored Fs rows qs nodes codes ends count used → (vs : List ℕ) → count ≤ length vs →
     draftText nodes vs codes ends count ≡ wordsOf Fs (take count vs) rows
 unfolding draftText wordsOf
-text-right {M} {Fs} {rows} {qs} {nodes} {codes} {ends} {count} found valued stored vs enough =
+text-right {M} {Fs} {rows} {qs} {nodes} {codes} {ends} {count} formed found valued stored vs enough =
     ap (λ (ws : List ℕ). word 7 whole ∷ (ws ++ (word 12 0 ∷ [])))
     (ap (λ (n : ℕ). nodesText nodes vs codes ends n 0) (stored .size)
     ∙ nodes-text nodes vs codes ends Fs (take count vs) rows 0 (length-take-le count vs enough ∙ stored .size) (rows-length valued) each)
@@ -115,4 +117,4 @@ text-right {M} {Fs} {rows} {qs} {nodes} {codes} {ends} {count} found valued stor
     each i l =
         rw (N.zero-add i, getD-take count vs i 0 (rw (stored .size) l))
         (node-text (stored-at valued stored i l) vs
-        (rows-words (length Fs) (found .ready .few) (valued-at valued i l .rows) (found-numbers found i l)))
+        (rows-words (length Fs) (found .ready .few) (valued-at valued i l .rows) (rows-writable formed found i l)))

@@ -30,7 +30,7 @@ use Rattle.drafting.specs.Words.{whole, frontWords, wordsOf}
 use Rattle.drafting.specs.Rounds.{roundedUp}
 use Rattle.drafting.proofs.WordBack.{node-fields}
 use Rattle.drafting.proofs.Shares.{Share, Valued, noValued, sumOf, largest, roundAt, roundEach, round, rounds, valuesAfter}
-use Rattle.drafting.proofs.ReadBack.{Numbers}
+use Rattle.drafting.proofs.ReadBack.{Numbers, RowsWritable}
 use Rattle.drafting.proofs.ExploreLaws.{AllFound}
 use Rattle.drafting.proofs.ValuedRows.{
   SharesOf,
@@ -45,12 +45,13 @@ use Rattle.drafting.proofs.ValuedRows.{
   valued-length,
   valued-at,
 }
+use Rattle.drafting.proofs.DraftTable.{rows-writable}
 use Rattle.draft.specs.Exploration.{codeOf}
 use Rattle.draft.specs.Nodes.{frontAt}
 use Rattle.draft.specs.Values.{sumFrom, largestFrom, valueAt, beginOf, roundBelow, roundsOf, valuesOf}
 use Rattle.draft.specs.Writing.{draftText}
 use Rattle.draft.proofs.Coding.{shareCodes, rowsCodes}
-use Rattle.draft.proofs.CodeLaws.{Stored, StoredAt, stored-at, RowsNumbers, found-numbers}
+use Rattle.draft.proofs.CodeLaws.{Stored, StoredAt, stored-at}
 use Rattle.draft.proofs.TextLaws.{text-right}
 
 -- 128 values: those of so many nodes first, us, and V from number 64 on
@@ -98,18 +99,18 @@ module _ (codes : List ℕ) (count : ℕ) (few : count ≤ 64) (vs us : List ℕ
         by false h = ne-eqb (s .node) 255 (λ e. omega arith)
 
     largest-right : {As : List Action} {rs : List FoundRow} {sss : List (List Share)} → ShareRows M F As rs sss → All (FormedAction M) As →
-        RowsNumbers count rs → (a at best : ℕ) → Each (ActionAt m) a As → (rest : List ℕ) → drop at codes ≡ rowsCodes rs sss ++ rest →
+        RowsWritable count As rs → (a at best : ℕ) → Each (ActionAt m) a As → (rest : List ℕ) → drop at codes ≡ rowsCodes rs sss ++ rest →
         largestFrom (m .edges) codes vs (m .index) (length As) a at best ≡ max best (largest (M .denominator) us sss)
     unfolding largestFrom largest rowsCodes Each
     largest-right noRow empty g a at best i rest h = sym (N.max-zero best)
     largest-right (passBlocked {A} {As} {rs} {sss} t) (more f fs) g a at best i rest h =
         rw (front at codes _ h)
-        (largest-right t fs g (suc a) (suc at) best (i .1) rest
+        (largest-right t fs (g .1) (suc a) (suc at) best (i .1) rest
         (subst (λ (k : ℕ). drop k codes ≡ rowsCodes rs sss ++ rest) (add-one at) (behind 1 at codes _ h)))
     largest-right (nextRow {A} {ns} {ss} {As} {rs} {sss} s t) (more f fs) g a at best i rest h =
         let edges : edgesAt (m .index) a ≡ length (A .edges) = edges-at (i .0) in
         let sum : sumFrom (m .edges) codes vs (length (A .edges)) (getD (m .index .edges) a 0) at ≡ sumOf us ss =
-        sum-right s (g .0) (getD (m .index .edges) a 0) at (i .0 .edges) (rowsCodes rs sss ++ rest) split in
+        sum-right s (g .0 .2) (getD (m .index .edges) a 0) at (i .0 .edges) (rowsCodes rs sss ++ rest) split in
         rw (first, edges, sum)
         (largest-right t fs (g .1) (suc a) (at + length (A .edges)) (max best (up (m .index .denominator))) (i .1) rest later
         ∙ regroup best (up (m .index .denominator)) others
@@ -125,7 +126,7 @@ module _ (codes : List ℕ) (count : ℕ) (few : count ≤ 64) (vs us : List ℕ
         split = h ∙ append-assoc (shareCodes ss) (rowsCodes rs sss) rest
 
         first : eqb (getD codes at 0) 255 ≡ false
-        first = rw (front at codes _ split) (first-code s (g .0) (f .some) (rowsCodes rs sss ++ rest))
+        first = rw (front at codes _ split) (first-code s (g .0 .2) (f .some) (rowsCodes rs sss ++ rest))
 
         later : drop (at + length (A .edges)) codes ≡ rowsCodes rs sss ++ rest
         later =
@@ -136,11 +137,11 @@ module _ (codes : List ℕ) (count : ℕ) (few : count ≤ 64) (vs us : List ℕ
         regroup a b c = omega arith
 
     -- at a location that exists; the codes begin at `at`
-    value-right : WellFormed M → F .location < length (M .locations) → (rs : List FoundRow) (q : Valued) → ValuedIs M F rs q → RowsNumbers count rs →
-        (at v : ℕ) (rest : List ℕ) → drop at codes ≡ rowsCodes rs (q .rows) ++ rest →
+    value-right : WellFormed M → F .location < length (M .locations) → (rs : List FoundRow) (q : Valued) → ValuedIs M F rs q →
+        RowsWritable count (rowActions (locationAt M (F .location))) rs → (at v : ℕ) (rest : List ℕ) → drop at codes ≡ rowsCodes rs (q .rows) ++ rest →
         valueAt (m .edges) codes vs (m .index) (F .location) at v ≡ roundAt (M .denominator) us q v
     unfolding valueAt roundAt rowActions
-    value-right formed there rs q valued g at v rest h = by (L .target) (q .target) (valued .target) (here .target) (valued .rows)
+    value-right formed there rs q valued g at v rest h = by (L .target) (q .target) (valued .target) (here .target) (valued .rows) g
       where
         L : Location
         L = locationAt M (F .location)
@@ -158,11 +159,11 @@ module _ (codes : List ℕ) (count : ℕ) (few : count ≤ 64) (vs us : List ℕ
         after = largestFrom (m .edges) codes vs (m .index) (getD (m .index .actions) (F .location + 1) 0 - first) first at 0
 
         by : (c d : Bool) → d ≡ c → getD (m .index .targets) (F .location) false ≡ c → ShareRows M F (cond c [] (L .actions)) rs (q .rows) →
-            cond (getD (m .index .targets) (F .location) false) v after ≡ cond d v (largest (M .denominator) us (q .rows))
-        by true true e k t = rw k
-        by true false e k t = false-true e
-        by false true e k t = true-false e
-        by false false e k t =
+            RowsWritable count (cond c [] (L .actions)) rs → cond (getD (m .index .targets) (F .location) false) v after ≡ cond d v (largest (M .denominator) us (q .rows))
+        by true true e k t g = rw k
+        by true false e k t g = false-true e
+        by false true e k t g = true-false e
+        by false false e k t g =
             rw (k, number)
             (largest-right t (formed .actions (F .location)) g first at 0 (here .actions) rest h ∙ N.zero-max (largest (M .denominator) us (q .rows)))
 
@@ -243,8 +244,8 @@ module _ {M : Model} {m : Kept} (x : Indexed M m) (formed : WellFormed M) {Fs : 
       small : F .location < 16
       small = let e = x .locations in let h = x .limit in let g = there in omega arith
 
-      numbers : RowsNumbers count (getD rows n [])
-      numbers = rw (stored .size) (found-numbers found n l)
+      numbers : RowsWritable count (rowActions (locationAt M (F .location))) (getD rows n [])
+      numbers = rw (stored .size) (rows-writable formed found n l)
 
   round-right : {vs us : List ℕ} → ValuesAre count vs us →
       ValuesAre count (roundBelow (m .index) (m .edges) nodes codes ends count vs) (round (M .denominator) qs us)
@@ -295,5 +296,5 @@ module _ {M : Model} {m : Kept} (x : Indexed M m) (formed : WellFormed M) {Fs : 
   pub draft-right : (n : ℕ) →
       draftText nodes (valuesOf (m .index) (m .edges) nodes codes ends count n) codes ends count ≡ wordsOf Fs (valuesAfter (M .denominator) qs n) rows
   draft-right n =
-      text-right found valued stored (valuesOf (m .index) (m .edges) nodes codes ends count n) (enough (values-are n))
+      text-right formed found valued stored (valuesOf (m .index) (m .edges) nodes codes ends count n) (enough (values-are n))
       ∙ ap (λ (vs : List ℕ). wordsOf Fs vs rows) (values-right n)

@@ -1,5 +1,5 @@
 -- Words put into a list in place of what stands there, part by part and word by word; and how many words a draft has. Assumes nothing.
-use Prim.Native.Nat.{ℕ, zero, suc, _+_, _-_, _*_, _≤_, _<_, zero-le}
+use Prim.Native.Nat.{ℕ, suc, _+_, _-_, _*_, _≤_, _<_, zero-le}
 use mathlib.Core.Path.{_≡_, refl, sym, ap, _∙_}
 use mathlib.Core.List.{List, [], _∷_, _++_, map, append-assoc}
 use native.Mathlib.Nat as N
@@ -12,7 +12,7 @@ use Rattle.draft.specs.Nodes.{frontAt, HasNode}
 use Rattle.draft.specs.Asked.{EndsFit}
 use Rattle.draft.specs.Values.{beginOf}
 use Rattle.draft.specs.Writing.{rowWord, nodeText, nodesText, draftText, written, LengthOf, Finishes, TextFits, NodeFits}
-use Rattle.draft.proofs.NodeLaws.{front-length}
+use Rattle.draft.proofs.NodeLaws.{map-at, front-length}
 
 -- ---- words put into a list
 
@@ -95,11 +95,6 @@ copies-end {L} {at} {ws} {lent} {p} k h =
 
 -- ---- the words of a node's rows
 
-map-at : (f : ℕ → ℕ) (xs : List ℕ) (i : ℕ) → i < length xs → getD (map f xs) i 0 ≡ f (getD xs i 0)
-map-at f [] i h = absurd (N.not-suc-le-zero h)
-map-at f (x ∷ xs) zero h = refl
-map-at f (x ∷ xs) (suc i) h = map-at f xs i (N.le-of-suc-le-suc h)
-
 module _ (codes : List ℕ) (from to : ℕ) (room : to ≤ length codes) where
   pub rows-length : length (map rowWord (slice from to codes)) ≡ to - from
   rows-length = length-map (slice from to codes) rowWord ∙ length-slice from to codes room
@@ -110,7 +105,7 @@ module _ (codes : List ℕ) (from to : ℕ) (room : to ≤ length codes) where
       let place : from + (p - from) ≡ p = omega arith in
       let code : getD (slice from to codes) (p - from) 0 ≡ getD codes p 0 =
       getD-drop from (take to codes) (p - from) 0 ∙ rw place (getD-take to codes p 0 k) in
-      sym (map-at rowWord (slice from to codes) (p - from) (omega arith) ∙ ap rowWord code)
+      sym (map-at rowWord 0 0 (slice from to codes) (p - from) (omega arith) ∙ ap rowWord code)
 
 -- ---- the words of nodes
 

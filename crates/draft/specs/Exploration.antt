@@ -45,7 +45,7 @@ abbrev pub withCode : ℕ → Drawing → Drawing
 withCode c d = drawing stop.None (d .fronts) (d .codes ++ (c ∷ []))
 
 -- goes on, unless exploring has ended
-unfoldable pub goOnBy : Stop → Drawing → Drawing → Drawing
+unfoldable pub goOnBy : {A : Type 0} → Stop → A → A → A
 goOnBy stop.None ended next = next
 goOnBy stop.Nodes ended next = ended
 goOnBy stop.Bounds ended next = ended
@@ -82,11 +82,6 @@ exploredAs d ends = record { drawn = d; ends = ends }
 pub record ExploredIn (nodes codes ends : List ℕ) (x : Extent) (e : Explored) : Type 0 where
   pub drawingIs : drawingOf x nodes codes ≡ e .drawn
   pub endsAre : x .stop ≡ stop.None → take (x .nodes) ends ≡ e .ends
-
-unfoldable pub goOnEnds : Stop → Explored → Explored → Explored
-goOnEnds stop.None ended next = next
-goOnEnds stop.Nodes ended next = ended
-goOnEnds stop.Bounds ended next = ended
 
 -- the start node, of the zone y of the start valuations
 unfoldable pub startDrawing : Index → Square → Drawing
@@ -136,14 +131,14 @@ module _ (m : Kept) where
   nodesFrom (suc n) k ends d =
       let next : Drawing = withNode k d in
       cond (ltb k (length (d .fronts)))
-      (goOnEnds (next .stop) (exploredAs next ends) (nodesFrom n (suc k) (ends ++ (length (next .codes) ∷ [])) next))
+      (goOnBy (next .stop) (exploredAs next ends) (nodesFrom n (suc k) (ends ++ (length (next .codes) ∷ [])) next))
       (exploredAs d ends)
 
   -- all of it, from the zone y of the start valuations
   unfoldable pub exploredFrom : Square → Explored
   exploredFrom y =
       let d : Drawing = startDrawing (m .index) y in
-      goOnEnds (d .stop) (exploredAs d []) (nodesFrom 64 0 [] d)
+      goOnBy (d .stop) (exploredAs d []) (nodesFrom 64 0 [] d)
 
 -- why exploring has ended, in the documents' numbers
 unfoldable pub stopAnswer : {A : Type 0} → Stop → A → Answer A

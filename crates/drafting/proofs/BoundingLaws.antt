@@ -1,8 +1,8 @@
 -- Laws of the bounds of zones: a region has one list of tightened bounds, the zone of those bounds has the same list, and the smallest zones that
 -- hold a region have the same valuations. Assumes nothing.
 use Prim.Native.Nat.{ℕ, zero, suc, _+_, _≤_, _<_, zero-le}
-use mathlib.Core.Path.{_≡_, refl, sym, ap, subst, _∙_}
-use mathlib.Core.Logic.{_⊎_, inl, inr}
+use mathlib.Core.Path.{_≡_, refl, sym, ap, ap₂, subst, _∙_}
+use mathlib.Core.Logic.{_⊎_, inl, inr, _↔_}
 use mathlib.Core.Bool.{Bool, true, false, not, cond, _&&_, _||_}
 use mathlib.Core.List.{List, [], _∷_, _++_}
 use native.Mathlib.Nat as N
@@ -11,7 +11,7 @@ use borrow.Author.Tests.{eqb-false}
 use lib.Dec.{T, eqb, eqb→eq}
 use lib.IntN.{ℤ, pos, negsuc, _-ℤ_, _*ℤ_}
 use lib.Signed.{leZ, ltZ}
-use Rattle.zone.specs.Scale.{read, Bound, holds?, Zone, in?, Region, within, Empty, Inside}
+use Rattle.zone.specs.Scale.{Valuation, read, Bound, holds?, Zone, in?, Region, within, Empty, Inside}
 use Rattle.zone.specs.Words.{boundOf}
 use Rattle.zone.proofs.Bools.{true-false, both, and}
 use Rattle.zone.proofs.Integers.{up, dn, leZ→, nltZ→, parts-diff, up-mul, dn-mul}
@@ -31,6 +31,16 @@ same-sym s = record { into = s .out; out = s .into }
 
 pub same-trans : {R S Q : Region} → Same R S → Same S Q → Same R Q
 same-trans f g = record { into = inside-trans (f .into) (g .into); out = inside-trans (g .out) (f .out) }
+
+-- the bounds of two lists together
+pub within-append : (Y Z : Zone) (k : ℕ) (v : Valuation) → within (Y ++ Z) k v ↔ (within Y k v × within Z k v)
+unfolding within in?
+within-append [] Z k v = ((λ h. (tt, h)), λ h. h .1)
+within-append (b ∷ Y) Z k v =
+    let (f, g) = within-append Y Z k v in (
+      (λ h. let (p, q) = both (holds? k v b) (in? k v (Y ++ Z)) h in (and (holds? k v b) (in? k v Y) p (f q .0), f q .1)),
+      λ h. let (p, q) = both (holds? k v b) (in? k v Y) (h .0) in and (holds? k v b) (in? k v (Y ++ Z)) p (g (q, h .1)),
+    )
 
 -- ---- at most one list of bounds
 
@@ -81,10 +91,7 @@ module _ (R : Region) where
   all-one (p ∷ ps) (b ∷ Y) (c ∷ Z) (inl f) (inr g) = absurd (f .0 .none c (g .0) (g .1) (g .2 .holds))
   all-one (p ∷ ps) (b ∷ Y) (c ∷ Z) (inr f) (inl g) = absurd (g .0 .none b (f .0) (f .1) (f .2 .holds))
   all-one (p ∷ ps) (b ∷ Y) (c ∷ Z) (inr f) (inr g) =
-      cons (tightened-one b c (f .0 ∙ sym (g .0)) (f .1 ∙ sym (g .1)) (f .2) (g .2)) (all-one ps Y Z (f .3) (g .3))
-    where
-      cons : b ≡ c → Y ≡ Z → _≡_ {A = Zone} (b ∷ Y) (c ∷ Z)
-      cons e d = rw (e, d)
+      ap₂ _∷_ (tightened-one b c (f .0 ∙ sym (g .0)) (f .1 ∙ sym (g .1)) (f .2) (g .2)) (all-one ps Y Z (f .3) (g .3))
 
   -- the bounds hold of R
   pub all-hold : (ps : List Pair) (Z : Zone) → AllTightened R ps Z → Inside R (within Z)

@@ -1,14 +1,12 @@
 -- Every table drafted is accepted, after any number of rounds. Assumes nothing.
-use Prim.Native.Nat.{ℕ, zero, suc, _+_, _*_, _≤_, _<_, zero-le, suc-le-suc}
+use Prim.Native.Nat.{ℕ, suc, _+_, _*_, _≤_, _<_, zero-le, suc-le-suc}
 use mathlib.Core.Path.{_≡_, refl, sym, ap, subst, _∙_}
 use mathlib.Core.Bool.{Bool, true, false, not, cond}
-use mathlib.Core.List.{List, [], _∷_, _++_}
-use native.Mathlib.Nat as N
+use mathlib.Core.List.{List, [], _∷_}
 use native.Mathlib.Omega.{arith}
 use lib.Dec.{T}
 use lib.ListN.{getD, length}
-use Rattle.zone.specs.Scale.{Valuation, holds?, Zone, in?, within}
-use Rattle.zone.proofs.Bools.{both, and}
+use Rattle.zone.specs.Scale.{Valuation, within}
 use Rattle.model.specs.Model.{Edge, Action, Location, Model}
 use Rattle.model.specs.States.{locationAt}
 use Rattle.model.proofs.WellFormed.{WellFormed}
@@ -25,6 +23,7 @@ use Rattle.acceptance.specs.Acceptance.{
 use Rattle.judge.proofs.RowLaws.{all-below}
 use Rattle.drafting.specs.Exploring.{Found, FoundRow, noFound, asNode, startZone}
 use Rattle.drafting.specs.Words.{whole, wordsOf}
+use Rattle.drafting.proofs.BoundingLaws.{within-append}
 use Rattle.drafting.proofs.Shares.{Share, Valued, noValued, sumOf, valuesAfter}
 use Rattle.drafting.proofs.RoundLaws.{Limited, Fits, values-length, values-limited, values-fit, target-keeps}
 use Rattle.drafting.proofs.ReadBack.{successorsAt, rowsAt, nodeAtPlace}
@@ -40,27 +39,13 @@ use Rattle.drafting.proofs.ValuedRows.{
   valued-at,
   weighed,
 }
-use Rattle.drafting.proofs.DraftTable.{whole-is, start-is, count-is, value-is, node-is}
+use Rattle.drafting.proofs.DraftTable.{pairwise-in, whole-is, start-is, count-is, value-is, node-is}
 use Rattle.drafting.proofs.DraftRounds.{reach-same, landings-same, sum-holds}
 
-pairwise-in : {A B : Type 0} (P : A → B → Type 0) (xs : List A) (ys : List B) (d : A) (c : B) (i : ℕ) → Pairwise P xs ys → i < length xs →
-    P (getD xs i d) (getD ys i c)
-pairwise-in P [] ys d c i h l = absurd (N.not-suc-le-zero l)
-pairwise-in P (x ∷ xs) [] d c i h l = absurd h
-pairwise-in P (x ∷ xs) (y ∷ ys) d c zero h l = h .0
-pairwise-in P (x ∷ xs) (y ∷ ys) d c (suc i) h l = pairwise-in P xs ys d c i (h .1) (N.le-of-suc-le-suc l)
-
 -- ---- the start zone holds the start valuations
-within-join : (Y Z : Zone) (k : ℕ) (u : Valuation) → within Y k u → within Z k u → within (Y ++ Z) k u
-unfolding within in?
-within-join [] Z k u g h = h
-within-join (b ∷ Y) Z k u g h =
-    let (p, r) = both (holds? k u b) (in? k u Y) g in
-    and (holds? k u b) (in? k u (Y ++ Z)) p (within-join Y Z k u r h)
-
 starts-in : (M : Model) (k : ℕ) (u : Valuation) → startValuations M k u → within (startZone M) k u
 unfolding startValuations startZone
-starts-in M k u s = within-join (M .startBounds) (locationAt M (M .start) .invariant) k u (s .bounds) (s .state .invariant)
+starts-in M k u s = within-append (M .startBounds) (locationAt M (M .start) .invariant) k u .1 (s .bounds, s .state .invariant)
 
 -- ---- with values of at most V
 module _ (M : Model) (formed : WellFormed M) (locations : length (M .locations) ≤ 16) (Fs : List Found) (rows : List (List FoundRow))

@@ -40,12 +40,19 @@ module _ (M : Model) (count : ℕ) where
   nodes-at p (F ∷ Fs) (v ∷ vs) (rs ∷ rows) h zero l = (p, refl)
   nodes-at p (F ∷ Fs) (v ∷ vs) (rs ∷ rows) h (suc n) l = nodes-at _ Fs vs rows (h .1) n (N.le-of-suc-le-suc l)
 
-module _ (M : Model) (formed : WellFormed M) (locations : length (M .locations) ≤ 16) (Fs : List Found) (rows : List (List FoundRow))
-    (found : AllFound M Fs rows) where
+-- what holds of pairs holds of those at a place
+pub pairwise-in : {A B : Type 0} (P : A → B → Type 0) (xs : List A) (ys : List B) (d : A) (c : B) (i : ℕ) → Pairwise P xs ys → i < length xs →
+    P (getD xs i d) (getD ys i c)
+pairwise-in P [] ys d c i h l = absurd (N.not-suc-le-zero l)
+pairwise-in P (x ∷ xs) [] d c i h l = absurd h
+pairwise-in P (x ∷ xs) (y ∷ ys) d c zero h l = h .0
+pairwise-in P (x ∷ xs) (y ∷ ys) d c (suc i) h l = pairwise-in P xs ys d c i (h .1) (N.le-of-suc-le-suc l)
+
+-- ---- the rows of what is found can be written
+module _ (M : Model) (Fs : List Found) where
   abbrev count : ℕ
   count = length Fs
 
-  -- ---- it can be written
   numbers-fit : (F : Found) (A : Action) (es : List Edge) (ns : List ℕ) → Pairwise (SuccessorGood M Fs F A) es ns →
       (length ns ≡ length es) × Numbers count ns
   numbers-fit F A [] [] h = (refl, tt)
@@ -63,8 +70,17 @@ module _ (M : Model) (formed : WellFormed M) (locations : length (M .locations) 
       let numbers = numbers-fit F A (A .edges) ns (h .0) in
       ((omega (arith, f .some, numbers .0), numbers .0, numbers .1), rows-fit F As fs rs (h .1))
 
+pub rows-writable : {M : Model} {Fs : List Found} {rows : List (List FoundRow)} → WellFormed M → AllFound M Fs rows → (n : ℕ) → n < length Fs →
+    RowsWritable (length Fs) (rowActions (locationAt M (getD Fs n noFound .location))) (getD rows n [])
+rows-writable {M} {Fs} {rows} formed found n l =
+    rows-fit M Fs (getD Fs n noFound) _ (rows-formed formed (getD Fs n noFound .location)) (getD rows n [])
+    (pairwise-in (RowsGood M Fs) Fs rows noFound [] n (found .each) l)
+
+-- ---- with values of at most V
+module _ (M : Model) (formed : WellFormed M) (locations : length (M .locations) ≤ 16) (Fs : List Found) (rows : List (List FoundRow))
+    (found : AllFound M Fs rows) where
   nodes-fit : (Gs : List Found) (us : List ℕ) (rs : List (List FoundRow)) → length us ≡ length Gs → Limited us → All (Writable M) Gs →
-      Pairwise (RowsGood M Fs) Gs rs → NodesFit M count Gs us rs
+      Pairwise (RowsGood M Fs) Gs rs → NodesFit M (length Fs) Gs us rs
   nodes-fit [] [] [] e l ws h = tt
   nodes-fit [] [] (r ∷ rs) e l ws h = h
   nodes-fit [] (u ∷ us) rs e l ws h = absurd (omega arith)
@@ -75,13 +91,13 @@ module _ (M : Model) (formed : WellFormed M) (locations : length (M .locations) 
       location = w .location;
       zone = w .zone;
       value = l .at 0;
-      rows = rows-fit G (rowActions (locationAt M (G .location))) (rows-formed formed (G .location)) r (h .0);
+      rows = rows-fit M Fs G (rowActions (locationAt M (G .location))) (rows-formed formed (G .location)) r (h .0);
     },
     nodes-fit Gs us rs (N.suc-inj e) (record { at = λ i. l .at (suc i) }) ws (h .1),
   )
 
   module _ (vs : List ℕ) (size : length vs ≡ length Fs) (limited : Limited vs) where
-    fit : NodesFit M count Fs vs rows
+    fit : NodesFit M (length Fs) Fs vs rows
     fit = nodes-fit Fs vs rows size limited (found .ready .all) (found .each)
 
     -- ---- the table that the words hold
@@ -89,7 +105,7 @@ module _ (M : Model) (formed : WellFormed M) (locations : length (M .locations) 
     W = tableOf M (wordsOf Fs vs rows)
 
     back : W ≡ record { whole = whole; nodes = nodesAt 1 Fs vs rows; start = 0; place = suc (length (nodesWords Fs vs rows)) }
-    back = table-back count (found .ready .few) M (formed .clocks) locations Fs vs rows fit
+    back = table-back (length Fs) (found .ready .few) M (formed .clocks) locations Fs vs rows fit
 
     pub whole-is : W .whole ≡ whole
     whole-is = ap (λ (W : Table). W .whole) back
@@ -101,16 +117,16 @@ module _ (M : Model) (formed : WellFormed M) (locations : length (M .locations) 
     start-is = ap (λ (W : Table). W .start) back
 
     pub count-is : length (W .nodes) ≡ length Fs
-    count-is = ap length nodes-are ∙ nodes-count M count 1 Fs vs rows fit
+    count-is = ap length nodes-are ∙ nodes-count M (length Fs) 1 Fs vs rows fit
 
     pub value-is : (n : ℕ) → nodeAt W n .value ≡ getD vs n 0
     unfolding nodeAt
-    value-is n = ap (λ (Ns : List Node). getD Ns n noNode .value) nodes-are ∙ values-at M count 1 Fs vs rows fit n
+    value-is n = ap (λ (Ns : List Node). getD Ns n noNode .value) nodes-are ∙ values-at M (length Fs) 1 Fs vs rows fit n
 
     -- of each node, its place with it
     pub node-is : (n : ℕ) → n < length Fs → (p : ℕ) × (nodeAt W n ≡ nodeAtPlace p (getD Fs n noFound) (getD vs n 0) (getD rows n []))
     unfolding nodeAt
-    node-is n l = let at = nodes-at M count 1 Fs vs rows fit n l in (at .0, ap (λ (Ns : List Node). getD Ns n noNode) nodes-are ∙ at .1)
+    node-is n l = let at = nodes-at M (length Fs) 1 Fs vs rows fit n l in (at .0, ap (λ (Ns : List Node). getD Ns n noNode) nodes-are ∙ at .1)
 
     -- the words pass the checks 11 to 14
     pub passes : AllHold (readChecks M (wordsOf Fs vs rows))

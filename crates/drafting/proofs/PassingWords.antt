@@ -29,7 +29,7 @@ use Rattle.drafting.specs.Exploring as exploring
 use Rattle.drafting.specs.Words.{whole, word, boundWord, frontWords, rowWords, rowsWords, nodeWords, nodesWords, wordsOf}
 use Rattle.drafting.proofs.WordBack.{AllFit, bound-kind, bound-good}
 use Rattle.drafting.proofs.WordBack.{node-kind, node-fields, value-kind, value-fields, successor-kind, successor-fields}
-use Rattle.drafting.proofs.ReadBack.{Numbers, RowsWritable, NodeFit, NodesFit, nodes-count, table-back}
+use Rattle.drafting.proofs.ReadBack.{Numbers, RowsWritable, NodeFit, NodesFit, nodes-count, EachWord, each-join, Inner, nodes-each, table-back}
 
 -- truth of a test
 T-of : (b : Bool) → b ≡ true → T b
@@ -239,61 +239,27 @@ module _ (M : Model) where
           first = record { opener = refl; location = refl; due = refl; count = refl }
 
 -- ---- the numbers of nodes
-abbrev NumbersHold : ℕ → List ℕ → Type 0
-NumbersHold count [] = Unit {0}
-NumbersHold count (w ∷ ws) = T (not (isTable successor w || isTable startNode w) || ltb (numberOf w) count) × NumbersHold count ws
+abbrev Named : ℕ → ℕ → Type 0
+Named count w = T (not (isTable successor w || isTable startNode w) || ltb (numberOf w) count)
 
-numbers-checks : (count p : ℕ) (ws : List ℕ) → NumbersHold count ws → AllHold (numberChecks count p ws)
+numbers-checks : (count p : ℕ) (ws : List ℕ) → EachWord (Named count) ws → AllHold (numberChecks count p ws)
 unfolding numberChecks
 numbers-checks count p [] h = tt
 numbers-checks count p (w ∷ ws) h = (h .0, numbers-checks count (suc p) ws (h .1))
 
-numbers-join : (count : ℕ) (xs ys : List ℕ) → NumbersHold count xs → NumbersHold count ys → NumbersHold count (xs ++ ys)
-numbers-join count [] ys g h = h
-numbers-join count (x ∷ xs) ys g h = (g .0, numbers-join count xs ys (g .1) h)
-
 -- a word that names no node
-no-name : (count w k : ℕ) → kind w ≡ k → eqb k 11 ≡ false → eqb k 12 ≡ false →
-    T (not (isTable successor w || isTable startNode w) || ltb (numberOf w) count)
+no-name : (count w k : ℕ) → kind w ≡ k → eqb k 11 ≡ false → eqb k 12 ≡ false → Named count w
 no-name count w k e f g = rw (e, f, g) tt
 
-module _ (M : Model) (count : ℕ) (few : count ≤ 64) (clocks : M .clocks ≤ 4) (locations : length (M .locations) ≤ 16) where
-  bounds-name : (Z : Zone) → AllFit (M .clocks) Z → NumbersHold count (map boundWord Z)
-  bounds-name [] h = tt
-  bounds-name (b ∷ Z) h = (no-name count (boundWord b) 5 (bound-kind (M .clocks) clocks b (h .0)) refl refl, bounds-name Z (h .1))
-
-  successors-name : (ns : List ℕ) → Numbers count ns → NumbersHold count (map (word 11) ns)
-  successors-name [] h = tt
-  successors-name (n ∷ ns) h = (there, successors-name ns (h .1))
-    where
-      there : T (not (isTable successor (word 11 n) || isTable startNode (word 11 n)) || ltb (numberOf (word 11 n)) count)
-      there =
-          let small : n < 64 = N.lt-of-lt-of-le (h .0) few in
-          rw (successor-kind n small, successor-fields n small .0, lt-ltb n count (h .0)) tt
-
-  rows-name : (As : List Action) (rs : List FoundRow) → RowsWritable count As rs → NumbersHold count (rowsWords rs)
-  unfolding rowsWords rowWords
-  rows-name [] [] h = tt
-  rows-name [] (r ∷ rs) h = absurd h
-  rows-name (A ∷ As) [] h = absurd h
-  rows-name (A ∷ As) (exploring.blocked ∷ rs) h = (tt, rows-name As rs (h .1))
-  rows-name (A ∷ As) (toNodes ns ∷ rs) h =
-      numbers-join count (map (word 11) ns) (rowsWords rs) (successors-name ns (h .0 .2)) (rows-name As rs (h .1))
-
-  nodes-name : (Fs : List Found) (vs : List ℕ) (rows : List (List FoundRow)) → NodesFit M count Fs vs rows → NumbersHold count (nodesWords Fs vs rows)
-  unfolding nodesWords nodeWords frontWords
-  nodes-name [] [] [] h = tt
-  nodes-name [] [] (rs ∷ rows) h = absurd h
-  nodes-name [] (v ∷ vs) rows h = absurd h
-  nodes-name (F ∷ Fs) [] rows h = absurd h
-  nodes-name (F ∷ Fs) (v ∷ vs) [] h = absurd h
-  nodes-name (F ∷ Fs) (v ∷ vs) (rs ∷ rows) h = (
-    no-name count (word 8 (F .location * 2 ^ 24)) 8 (node-kind (F .location) (N.lt-of-lt-of-le (h .0 .location) locations)) refl refl,
-    numbers-join count (map boundWord (F .zone) ++ (word 9 v ∷ rowsWords rs)) (nodesWords Fs vs rows)
-        (numbers-join count (map boundWord (F .zone)) (word 9 v ∷ rowsWords rs) (bounds-name (F .zone) (h .0 .zone))
-        (no-name count (word 9 v) 9 (value-kind v (h .0 .value)) refl refl, rows-name (rowActions (locationAt M (F .location))) rs (h .0 .rows)))
-        (nodes-name Fs vs rows (h .1)),
-  )
+named : (count : ℕ) → count ≤ 64 → Inner (Named count) count
+named count few = record {
+  bound = λ w e. no-name count w 5 e refl refl;
+  value = λ w e. no-name count w 9 e refl refl;
+  blocked = tt;
+  successor = λ n h.
+      let small : n < 64 = N.lt-of-lt-of-le h few in
+      rw (successor-kind n small, successor-fields n small .0, lt-ltb n count h) tt;
+}
 
 -- the words of a draft pass the checks 11 to 14
 pub draft-passes : (M : Model) → M .clocks ≤ 4 → length (M .locations) ≤ 16 →
@@ -306,8 +272,9 @@ draft-passes M clocks locations F Fs v vs rs rows few h =
     (subst (λ (n : ℕ). AllHold (numberChecks n 0 words)) (sym counts)
     (numbers-checks (suc (length Fs)) 0 words (
       tt,
-      numbers-join (suc (length Fs)) (nodesWords (F ∷ Fs) (v ∷ vs) (rs ∷ rows)) (word 12 0 ∷ [])
-          (nodes-name M (suc (length Fs)) few clocks locations (F ∷ Fs) (v ∷ vs) (rs ∷ rows) h) (start, tt),
+      each-join _ (nodesWords (F ∷ Fs) (v ∷ vs) (rs ∷ rows)) (word 12 0 ∷ [])
+          (nodes-each _ (suc (length Fs)) (named (suc (length Fs)) few) M clocks (λ w e. no-name _ w 8 e refl refl) locations (F ∷ Fs) (v ∷ vs)
+          (rs ∷ rows) h) (start, tt),
     )))
   where
     words : List ℕ

@@ -1,6 +1,6 @@
 -- The words of a draft hold the table that was drafted. Assumes nothing.
 use Prim.Native.Nat.{ℕ, suc, _+_, _*_, _^_, _≤_, _<_}
-use mathlib.Core.Path.{_≡_, refl, sym, ap, _∙_}
+use mathlib.Core.Path.{_≡_, refl, sym, ap, ap₂, _∙_}
 use mathlib.Core.Bool.{false}
 use mathlib.Core.List.{List, [], _∷_, _++_, map, append-assoc}
 use native.Mathlib.Nat as N
@@ -95,13 +95,9 @@ module _ (count : ℕ) (few : count ≤ 64) where
       successorsOf (length ns) p (map (word 11) ns ++ rest) ≡ successorsAt p ns
   unfolding successorsOf
   successors-back p [] rest h = refl
-  successors-back p (n ∷ ns) rest h = cons (successor-fields n (N.lt-of-lt-of-le (h .0) few) .0) (successors-back (suc p) ns rest (h .1))
-    where
-      cons : numberOf (word 11 n) ≡ n → successorsOf (length ns) (suc p) (map (word 11) ns ++ rest) ≡ successorsAt (suc p) ns →
-          _≡_ {A = List Successor}
-          (record { node = numberOf (word 11 n); place = p } ∷ successorsOf (length ns) (suc p) (map (word 11) ns ++ rest))
-          (record { node = n; place = p } ∷ successorsAt (suc p) ns)
-      cons e f = rw (e, f)
+  successors-back p (n ∷ ns) rest h =
+      ap₂ (λ (m : ℕ) (ss : List Successor). record { node = m; place = p } ∷ ss) (successor-fields n (N.lt-of-lt-of-le (h .0) few) .0)
+      (successors-back (suc p) ns rest (h .1))
 
   rows-back : (p : ℕ) (As : List Action) (rs : List FoundRow) (rest : List ℕ) → RowsWritable count As rs →
       rowsOf As p (rowsWords rs ++ rest) ≡ rowsAt p rs
@@ -113,7 +109,7 @@ module _ (count : ℕ) (few : count ≤ 64) where
   rows-back p (A ∷ As) (toNodes [] ∷ rs) rest h = absurd (N.not-suc-le-zero (h .0 .0))
   rows-back p (A ∷ As) (toNodes (n ∷ ns) ∷ rs) rest h =
       rw (successor-kind n (N.lt-of-lt-of-le (h .0 .2 .0) few), ← h .0 .1)
-      (cons (ap (successorsOf (suc (length ns)) p) split ∙ successors-back p (n ∷ ns) (rowsWords rs ++ rest) (h .0 .2))
+      (ap₂ (λ (ss : List Successor) (xs : List Row). successorRow p ss ∷ xs) (ap (successorsOf (suc (length ns)) p) split ∙ successors-back p (n ∷ ns) (rowsWords rs ++ rest) (h .0 .2))
       (ap (rowsOf As (p + suc (length ns))) (ap (drop (suc (length ns))) split ∙ behind)
       ∙ rows-back (p + suc (length ns)) As rs rest (h .1)))
     where
@@ -126,10 +122,6 @@ module _ (count : ℕ) (few : count ≤ 64) where
       behind : drop (suc (length ns)) (ws ++ (rowsWords rs ++ rest)) ≡ rowsWords rs ++ rest
       behind = drop-at ws (rowsWords rs ++ rest) (suc (length ns)) (length-map (n ∷ ns) (word 11))
 
-      cons : {ss ts : List Successor} {xs ys : List Row} → ss ≡ ts → xs ≡ ys →
-          _≡_ {A = List Row} (successorRow p ss ∷ xs) (successorRow p ts ∷ ys)
-      cons e f = rw (e, f)
-
 -- the bounds at the front
 leading-back : (C : ℕ) → C ≤ 4 → (Z : Zone) → AllFit C Z → (w : ℕ) (rest : List ℕ) → isTable nodeBound w ≡ false →
     leadingBounds (map boundWord Z ++ (w ∷ rest)) ≡ map boundWord Z
@@ -138,14 +130,66 @@ leading-back C few [] h w rest e = rw e
 leading-back C few (b ∷ Z) h w rest e =
     rw (bound-kind C few b (h .0)) (ap (λ (xs : List ℕ). boundWord b ∷ xs) (leading-back C few Z (h .1) w rest e))
 
+-- ---- what holds of each word
+
+abbrev pub EachWord : (ℕ → Type 0) → List ℕ → Type 0
+EachWord P [] = Unit {0}
+EachWord P (w ∷ ws) = P w × EachWord P ws
+
+pub each-join : (P : ℕ → Type 0) (xs ys : List ℕ) → EachWord P xs → EachWord P ys → EachWord P (xs ++ ys)
+each-join P [] ys g h = h
+each-join P (x ∷ xs) ys g h = (g .0, each-join P xs ys (g .1) h)
+
+-- the words behind a node's first word
+abbrev inner : Found → ℕ → List FoundRow → List ℕ
+inner F v rs = map boundWord (F .zone) ++ (word 9 v ∷ rowsWords rs)
+
+-- P holds of those, where so many nodes are numbered
+pub record Inner (P : ℕ → Type 0) (count : ℕ) : Type 0 where
+  pub bound : (w : ℕ) → kind w ≡ 5 → P w
+  pub value : (w : ℕ) → kind w ≡ 9 → P w
+  pub blocked : P (word 10 0)
+  pub successor : (n : ℕ) → n < count → P (word 11 n)
+
+module _ (P : ℕ → Type 0) (count : ℕ) (i : Inner P count) where
+  bounds-each : (C : ℕ) → C ≤ 4 → (Z : Zone) → AllFit C Z → EachWord P (map boundWord Z)
+  bounds-each C few [] h = tt
+  bounds-each C few (b ∷ Z) h = (i .bound (boundWord b) (bound-kind C few b (h .0)), bounds-each C few Z (h .1))
+
+  numbers-each : (ns : List ℕ) → Numbers count ns → EachWord P (map (word 11) ns)
+  numbers-each [] h = tt
+  numbers-each (n ∷ ns) h = (i .successor n (h .0), numbers-each ns (h .1))
+
+  rows-each : (As : List Action) (rs : List FoundRow) → RowsWritable count As rs → EachWord P (rowsWords rs)
+  unfolding rowsWords rowWords
+  rows-each [] [] h = tt
+  rows-each [] (r ∷ rs) h = absurd h
+  rows-each (A ∷ As) [] h = absurd h
+  rows-each (A ∷ As) (blocked ∷ rs) h = (i .blocked, rows-each As rs (h .1))
+  rows-each (A ∷ As) (toNodes ns ∷ rs) h = each-join P (map (word 11) ns) (rowsWords rs) (numbers-each ns (h .0 .2)) (rows-each As rs (h .1))
+
+  module _ (M : Model) (clocks : M .clocks ≤ 4) where
+    inner-each : (F : Found) (v : ℕ) (rs : List FoundRow) → NodeFit M count F v rs → EachWord P (inner F v rs)
+    inner-each F v rs h =
+        each-join P (map boundWord (F .zone)) (word 9 v ∷ rowsWords rs) (bounds-each (M .clocks) clocks (F .zone) (h .zone))
+        (i .value (word 9 v) (value-kind v (h .value)), rows-each (rowActions (locationAt M (F .location))) rs (h .rows))
+
+    pub nodes-each : ((w : ℕ) → kind w ≡ 8 → P w) → length (M .locations) ≤ 16 → (Fs : List Found) (vs : List ℕ) (rows : List (List FoundRow)) →
+        NodesFit M count Fs vs rows → EachWord P (nodesWords Fs vs rows)
+    unfolding nodesWords nodeWords frontWords
+    nodes-each first locations [] [] [] h = tt
+    nodes-each first locations [] [] (rs ∷ rows) h = absurd h
+    nodes-each first locations [] (v ∷ vs) rows h = absurd h
+    nodes-each first locations (F ∷ Fs) [] rows h = absurd h
+    nodes-each first locations (F ∷ Fs) (v ∷ vs) [] h = absurd h
+    nodes-each first locations (F ∷ Fs) (v ∷ vs) (rs ∷ rows) h = (
+      first (word 8 (F .location * 2 ^ 24)) (node-kind (F .location) (N.lt-of-lt-of-le (h .0 .location) locations)),
+      each-join P (inner F v rs) (nodesWords Fs vs rows) (inner-each F v rs (h .0)) (nodes-each first locations Fs vs rows (h .1)),
+    )
+
 -- no word of a kind
 abbrev NoKind : TableKind → List ℕ → Type 0
-NoKind k [] = Unit {0}
-NoKind k (w ∷ ws) = (isTable k w ≡ false) × NoKind k ws
-
-no-kind-join : (k : TableKind) (xs ys : List ℕ) → NoKind k xs → NoKind k ys → NoKind k (xs ++ ys)
-no-kind-join k [] ys g h = h
-no-kind-join k (x ∷ xs) ys g h = (g .0, no-kind-join k xs ys (g .1) h)
+NoKind k = EachWord (λ w. isTable k w ≡ false)
 
 -- the first word, or 0 where there is none
 first-none : (k : TableKind) (ws : List ℕ) → isTable k 0 ≡ false → NoKind k ws → isTable k (getD ws 0 0) ≡ false
@@ -166,43 +210,20 @@ unfolding indexOf
 index-over k [] w ys h e = rw (eq-eqb (kind w) (tableNumber k) e)
 index-over k (x ∷ xs) w ys h e = rw (h .0) (ap suc (index-over k xs w ys (h .1) e))
 
--- a kind that no bound, value or word of a row has
-record Outer (k : TableKind) : Type 0 where
-  bound : eqb 5 (tableNumber k) ≡ false
-  value : eqb 9 (tableNumber k) ≡ false
-  blocked : eqb 10 (tableNumber k) ≡ false
-  successor : eqb 11 (tableNumber k) ≡ false
-
 -- the number of a word's kind, in a test for the kind k
 not-of : (k : TableKind) (w n : ℕ) → kind w ≡ n → eqb n (tableNumber k) ≡ false → isTable k w ≡ false
 not-of k w n e f = rw e f
 
-outer-node : Outer node
-outer-node = record { bound = refl; value = refl; blocked = refl; successor = refl }
-
-outer-start : Outer startNode
-outer-start = record { bound = refl; value = refl; blocked = refl; successor = refl }
-
-outer-cut : Outer cut
-outer-cut = record { bound = refl; value = refl; blocked = refl; successor = refl }
-
-bounds-none : (k : TableKind) → Outer k → (C : ℕ) → C ≤ 4 → (Z : Zone) → AllFit C Z → NoKind k (map boundWord Z)
-bounds-none k o C few [] h = tt
-bounds-none k o C few (b ∷ Z) h = (not-of k (boundWord b) 5 (bound-kind C few b (h .0)) (o .bound), bounds-none k o C few Z (h .1))
-
 module _ (count : ℕ) (few : count ≤ 64) where
-  numbers-none : (k : TableKind) → Outer k → (ns : List ℕ) → Numbers count ns → NoKind k (map (word 11) ns)
-  numbers-none k o [] h = tt
-  numbers-none k o (n ∷ ns) h = (not-of k (word 11 n) 11 (successor-kind n (N.lt-of-lt-of-le (h .0) few)) (o .successor), numbers-none k o ns (h .1))
-
-  rows-none : (k : TableKind) → Outer k → (As : List Action) (rs : List FoundRow) → RowsWritable count As rs → NoKind k (rowsWords rs)
-  unfolding rowsWords rowWords
-  rows-none k o [] [] h = tt
-  rows-none k o [] (r ∷ rs) h = absurd h
-  rows-none k o (A ∷ As) [] h = absurd h
-  rows-none k o (A ∷ As) (blocked ∷ rs) h = (o .blocked, rows-none k o As rs (h .1))
-  rows-none k o (A ∷ As) (toNodes ns ∷ rs) h =
-      no-kind-join k (map (word 11) ns) (rowsWords rs) (numbers-none k o ns (h .0 .2)) (rows-none k o As rs (h .1))
+  -- a kind that no bound, value or word of a row has
+  outer : (k : TableKind) → eqb 5 (tableNumber k) ≡ false → eqb 9 (tableNumber k) ≡ false → eqb 10 (tableNumber k) ≡ false →
+      eqb 11 (tableNumber k) ≡ false → Inner (λ w. isTable k w ≡ false) count
+  outer k five nine ten eleven = record {
+    bound = λ w e. not-of k w 5 e five;
+    value = λ w e. not-of k w 9 e nine;
+    blocked = ten;
+    successor = λ n h. not-of k (word 11 n) 11 (successor-kind n (N.lt-of-lt-of-le h few)) eleven;
+  }
 
   module _ (M : Model) (clocks : M .clocks ≤ 4) (locations : length (M .locations) ≤ 16) where
     -- rows, in front of words without a cut
@@ -210,7 +231,7 @@ module _ (count : ℕ) (few : count ≤ 64) where
         bodyOf L p (rowsWords rs ++ rest) ≡ rowsBody (rowsAt p rs)
     unfolding bodyOf
     body-back L p rs rest h g =
-        rw (first-none cut (rowsWords rs ++ rest) refl (no-kind-join cut (rowsWords rs) rest (rows-none cut outer-cut (rowActions L) rs h) g))
+        rw (first-none cut (rowsWords rs ++ rest) refl (each-join _ (rowsWords rs) rest (rows-each _ count (outer cut refl refl refl refl) (rowActions L) rs h) g))
         (ap rowsBody (rows-back count few p (rowActions L) rs rest h))
 
     -- a node, in front of such words
@@ -244,24 +265,13 @@ module _ (count : ℕ) (few : count ≤ 64) where
             (record { location = F .location; zone = F .zone; value = v; place = suc p + length (F .zone); body = y })
         made e f = rw (e, f)
 
-    -- the words behind a node's first word
-    abbrev inner : Found → ℕ → List FoundRow → List ℕ
-    inner F v rs = map boundWord (F .zone) ++ (word 9 v ∷ rowsWords rs)
-
-    inner-none : (k : TableKind) → Outer k → (F : Found) (v : ℕ) (rs : List FoundRow) → NodeFit M count F v rs → NoKind k (inner F v rs)
-    inner-none k o F v rs h =
-        no-kind-join k (map boundWord (F .zone)) (word 9 v ∷ rowsWords rs) (bounds-none k o (M .clocks) clocks (F .zone) (h .zone)) (
-          not-of k (word 9 v) 9 (value-kind v (h .value)) (o .value),
-          rows-none k o (rowActions (locationAt M (F .location))) rs (h .rows),
-        )
-
     one-back : (p : ℕ) (F : Found) (v : ℕ) (rs : List FoundRow) (rest : List ℕ) → NodeFit M count F v rs → NoKind cut rest →
         nodesOf M p (nodeWords F v rs ++ rest) ≡ nodeAtPlace p F v rs ∷ nodesOf M (p + length (nodeWords F v rs)) rest
     unfolding nodeWords frontWords nodesOf
     one-back p F v rs rest h g =
         rw (node-kind (F .location) (N.lt-of-lt-of-le (h .location) locations))
-        (cons (ap (nodeOf M p (word 8 (F .location * 2 ^ 24))) split ∙ node-back p F v rs rest h g)
-        (passed-over M (suc p) (inner F v rs) rest (inner-none node outer-node F v rs h) ∙ ap (λ (q : ℕ). nodesOf M q rest) place))
+        (ap₂ _∷_ (ap (nodeOf M p (word 8 (F .location * 2 ^ 24))) split ∙ node-back p F v rs rest h g)
+        (passed-over M (suc p) (inner F v rs) rest (inner-each _ count (outer node refl refl refl refl) M clocks F v rs h) ∙ ap (λ (q : ℕ). nodesOf M q rest) place))
       where
         split : inner F v rs ++ rest ≡ map boundWord (F .zone) ++ (word 9 v ∷ (rowsWords rs ++ rest))
         split = append-assoc (map boundWord (F .zone)) (word 9 v ∷ rowsWords rs) rest
@@ -269,21 +279,9 @@ module _ (count : ℕ) (few : count ≤ 64) where
         place : suc p + length (inner F v rs) ≡ p + suc (length (inner F v rs))
         place = omega arith
 
-        cons : {x y : Node} {xs ys : List Node} → x ≡ y → xs ≡ ys → _≡_ {A = List Node} (x ∷ xs) (y ∷ ys)
-        cons e f = rw (e, f)
-
-    nodes-none : (k : TableKind) → Outer k → eqb 8 (tableNumber k) ≡ false → (Fs : List Found) (vs : List ℕ) (rows : List (List FoundRow)) →
-        NodesFit M count Fs vs rows → NoKind k (nodesWords Fs vs rows)
-    unfolding nodesWords nodeWords frontWords
-    nodes-none k o e [] [] [] h = tt
-    nodes-none k o e [] [] (rs ∷ rows) h = absurd h
-    nodes-none k o e [] (v ∷ vs) rows h = absurd h
-    nodes-none k o e (F ∷ Fs) [] rows h = absurd h
-    nodes-none k o e (F ∷ Fs) (v ∷ vs) [] h = absurd h
-    nodes-none k o e (F ∷ Fs) (v ∷ vs) (rs ∷ rows) h = (
-      not-of k (word 8 (F .location * 2 ^ 24)) 8 (node-kind (F .location) (N.lt-of-lt-of-le (h .0 .location) locations)) e,
-      no-kind-join k (inner F v rs) (nodesWords Fs vs rows) (inner-none k o F v rs (h .0)) (nodes-none k o e Fs vs rows (h .1)),
-    )
+    nodes-none : (k : TableKind) → Inner (λ w. isTable k w ≡ false) count → eqb 8 (tableNumber k) ≡ false → (Fs : List Found) (vs : List ℕ)
+        (rows : List (List FoundRow)) → NodesFit M count Fs vs rows → NoKind k (nodesWords Fs vs rows)
+    nodes-none k o e = nodes-each _ count o M clocks (λ w q. not-of k w 8 q e) locations
 
     nodes-back : (p : ℕ) (Fs : List Found) (vs : List ℕ) (rows : List (List FoundRow)) (rest : List ℕ) →
         NodesFit M count Fs vs rows → NoKind node rest → NoKind cut rest → nodesOf M p (nodesWords Fs vs rows ++ rest) ≡ nodesAt p Fs vs rows
@@ -300,7 +298,7 @@ module _ (count : ℕ) (few : count ≤ 64) where
     nodes-back p (F ∷ Fs) (v ∷ vs) (rs ∷ rows) rest h g c =
         ap (nodesOf M p) (append-assoc (nodeWords F v rs) (nodesWords Fs vs rows) rest)
         ∙ one-back p F v rs (nodesWords Fs vs rows ++ rest) (h .0)
-        (no-kind-join cut (nodesWords Fs vs rows) rest (nodes-none cut outer-cut refl Fs vs rows (h .1)) c)
+        (each-join _ (nodesWords Fs vs rows) rest (nodes-none cut (outer cut refl refl refl refl) refl Fs vs rows (h .1)) c)
         ∙ ap (λ (xs : List Node). nodeAtPlace p F v rs ∷ xs) (nodes-back (p + length (nodeWords F v rs)) Fs vs rows rest (h .1) g c)
 
     -- the words of a draft hold its table
@@ -310,7 +308,7 @@ module _ (count : ℕ) (few : count ≤ 64) where
     unfolding tableOf wordsOf nodesOf indexOf
     table-back Fs vs rows h =
         made (nodes-back 1 Fs vs rows (word 12 0 ∷ []) h (refl, tt) (refl, tt))
-        (index-over startNode (nodesWords Fs vs rows) (word 12 0) [] (nodes-none startNode outer-start refl Fs vs rows h) refl)
+        (index-over startNode (nodesWords Fs vs rows) (word 12 0) [] (nodes-none startNode (outer startNode refl refl refl refl) refl Fs vs rows h) refl)
         (getD-append-seam (nodesWords Fs vs rows) (word 12 0) [] 0)
       where
         ws : List ℕ

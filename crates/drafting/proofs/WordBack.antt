@@ -1,6 +1,6 @@
 -- The words of a draft, read back: kinds and fields. Assumes nothing.
 use Prim.Native.Nat.{ℕ, suc, _+_, _-_, _*_, _/_, _^_, _≤_, _<_}
-use mathlib.Core.Path.{_≡_, refl, ap, _∙_}
+use mathlib.Core.Path.{_≡_, refl, ap, ap₂, _∙_}
 use mathlib.Core.Bool.{Bool, true, false, cond}
 use mathlib.Core.List.{[], _∷_, map}
 use native.Mathlib.Omega.{arith}
@@ -108,11 +108,7 @@ AllFit C (b ∷ Z) = Fit C b × AllFit C Z
 pub zone-back : (C : ℕ) → C ≤ 4 → (Z : Zone) → AllFit C Z → zoneOf (map boundWord Z) ≡ Z
 unfolding zoneOf
 zone-back C few [] h = refl
-zone-back C few (b ∷ Z) h = cons (bound-back C few b (h .0)) (zone-back C few Z (h .1))
-  where
-    cons : boundOf (boundWord b) ≡ b → zoneOf (map boundWord Z) ≡ Z →
-        _≡_ {A = Zone} (boundOf (boundWord b) ∷ zoneOf (map boundWord Z)) (b ∷ Z)
-    cons e f = rw (e, f)
+zone-back C few (b ∷ Z) h = ap₂ _∷_ (bound-back C few b (h .0)) (zone-back C few Z (h .1))
 
 -- ---- the other words
 

@@ -5,7 +5,8 @@ use mathlib.Core.Logic.{⊎-elim}
 use native.Mathlib.Omega.{arith}
 use borrow.Author.Needs.{needs}
 use borrow.Author.Tests.{not-true, not-false}
-use Rattle.draft.proofs.RoundCode.{begin-limited, located-at, RoundTo, round-begin, round-target, round-same, round-next, round-end}
+use Rattle.draft.proofs.LocatedLaws.{located-at}
+use Rattle.draft.proofs.RoundCode.{begin-limited, RoundTo, round-begin, round-target, round-same, round-next, round-end}
 use Rattle.draft.proofs.rounds.round.Statement.{statement}
 use Rattle.draft.proofs.rounds.round.Tie as tie
 
