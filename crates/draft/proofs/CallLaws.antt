@@ -36,7 +36,7 @@ module _ (model : List ℕ) (counts : Counts) (reads : ReadModel model (accepted
   pub exploring-refused : (number place : ℕ) → exploring M [] (refused number place) → Drafts model n room (refused number place)
   exploring-refused number place h = record { says = inl (counts, reads, inr (number, place, h, refl)) }
 
-  -- it is not
+  -- exploring is not refused
   module _ (Fs : List Found) (rows : List (List FoundRow)) (qs : List Valued)
       (explores : exploring M [] (accepted (record { found = Fs; result = rows }))) (valued : ValuedAll M Fs rows qs) where
     abbrev vs : List ℕ

@@ -24,7 +24,7 @@ use Rattle.drafting.proofs.DraftJudged.{drafted-certifies}
 use Rattle.draft.specs.Answers.{draftAnswer}
 use Rattle.draft.specs.Fronts.{Clocks}
 use Rattle.draft.specs.Nodes.{frontsOf, Holds}
-use Rattle.draft.specs.Exploration.{Drawing, drawingOf, startDrawing, nodesFrom, Explored, exploredFrom, ExploredIn, stopAnswer}
+use Rattle.draft.specs.Exploration.{Graph, graphOf, startGraph, nodesFrom, Explored, exploredFrom, ExploredIn, stopAnswer}
 use Rattle.draft.specs.Asked.{ModelAsked, Located}
 use Rattle.draft.specs.Values.{valuesOf}
 use Rattle.draft.specs.Writing.{draftText, lastAnswer}
@@ -87,8 +87,8 @@ module _ (words : List ℕ) (n : ℕ) (lent : List ℕ) where
     explores =
         explored-right (keeps words r es zs a .indexed) (good words r es zs a) (formed words r es zs a) (r .initial) (keeps words r es zs a .initial)
 
-    -- exploring has ended before its time
-    stops : (s : Stop) → (s ≡ stop.None → ⊥) → exploredFrom m (r .initial) .drawn .stop ≡ s → (v : DraftAnswer) →
+    -- exploring is refused
+    stops : (s : Stop) → (s ≡ stop.None → ⊥) → exploredFrom m (r .initial) .built .stop ≡ s → (v : DraftAnswer) →
         HandsOn {A = ℕ} (stopAnswer s 0) (draftAnswer v) → Promise words n lent v lent
     unfolding stopAnswer lengthOf lentAfter
     stops stop.None un e v h = absurd (un refl)
@@ -100,44 +100,44 @@ module _ (words : List ℕ) (n : ℕ) (lent : List ℕ) where
         (h .same 59 0 refl) refl
 
     -- the start node, in the store `first`
-    module _ (x : Extent) (first : List ℕ) (e : drawingOf x first [] ≡ startDrawing (r .index) (r .initial)) where
+    module _ (x : Extent) (first : List ℕ) (e : graphOf x first [] ≡ startGraph (r .index) (r .initial)) where
       pub start-stops : (x .stop ≡ stop.None → ⊥) → (v : DraftAnswer) → HandsOn {A = ℕ} (stopAnswer (x .stop) 0) (draftAnswer v) →
           Promise words n lent v lent
       start-stops un =
-          stops (x .stop) un (sym (ap (λ (X : Explored). X .drawn .stop) (explored-not m (r .initial) first x e un)) ∙ sym (ap (λ (d : Drawing). d .stop) e))
+          stops (x .stop) un (sym (ap (λ (X : Explored). X .built .stop) (explored-not m (r .initial) first x e un)) ∙ sym (ap (λ (d : Graph). d .stop) e))
 
       pub first-located : Located (r .index .locations) (frontsOf first (x .nodes))
       first-located = start-located m (r .initial) first x e start-below (asked .locations)
 
       -- all of it, in the stores `nodes`, `codes` and `ends`; exploring began with the codes `before`
       module _ (none : x .codes ≡ 0) (is : x .stop ≡ stop.None) (before nodes codes ends : List ℕ) (y : Extent)
-          (found : ExploredIn nodes codes ends y (nodesFrom m 64 0 [] (drawingOf x first before))) where
+          (found : ExploredIn nodes codes ends y (nodesFrom m 64 0 [] (graphOf x first before))) where
         abbrev X : Explored
         X = exploredFrom m (r .initial)
 
-        all-of-it : nodesFrom m 64 0 [] (drawingOf x first before) ≡ X
+        all-of-it : nodesFrom m 64 0 [] (graphOf x first before) ≡ X
         all-of-it = explored-on m (r .initial) first x e before none is
 
-        drawn : drawingOf y nodes codes ≡ X .drawn
-        drawn = found .drawingIs ∙ ap (λ (X : Explored). X .drawn) all-of-it
+        built : graphOf y nodes codes ≡ X .built
+        built = found .graphIs ∙ ap (λ (X : Explored). X .built) all-of-it
 
         pub explore-stops : (y .stop ≡ stop.None → ⊥) → (v : DraftAnswer) → HandsOn {A = ℕ} (stopAnswer (y .stop) 0) (draftAnswer v) →
             Promise words n lent v lent
-        explore-stops un = stops (y .stop) un (sym (ap (λ (d : Drawing). d .stop) drawn))
+        explore-stops un = stops (y .stop) un (sym (ap (λ (d : Graph). d .stop) built))
 
         module _ (last : y .stop ≡ stop.None) where
           all : AllExplored M X
-          all = explores .all (sym (ap (λ (d : Drawing). d .stop) drawn) ∙ last)
+          all = explores .all (sym (ap (λ (d : Graph). d .stop) built) ∙ last)
 
           fronts-are : frontsOf nodes (y .nodes) ≡ map frontWords (all .found)
-          fronts-are = ap (λ (d : Drawing). d .fronts) drawn ∙ all .fronts
+          fronts-are = ap (λ (d : Graph). d .fronts) built ∙ all .fronts
 
           stored : Stored (all .found) (all .rows) (all .valued) nodes codes ends (y .nodes) (y .codes)
           stored = record {
             size = sym (fronts-length nodes (y .nodes)) ∙ ap length fronts-are ∙ length-map (all .found) frontWords;
             fronts = fronts-are;
             coded = record {
-              codesAre = ap (λ (d : Drawing). d .codes) drawn ∙ all .coded .codesAre;
+              codesAre = ap (λ (d : Graph). d .codes) built ∙ all .coded .codesAre;
               endsAre = found .endsAre last ∙ ap (λ (X : Explored). X .ends) all-of-it ∙ all .coded .endsAre;
             };
           }

@@ -22,7 +22,7 @@ use Rattle.drafting.specs.Exploring.{narrow?}
 use Rattle.drafting.specs.Words.{frontWords}
 use Rattle.draft.specs.Fronts.{zoneFrom, FrontOf}
 use Rattle.draft.specs.Nodes.{frontsOf, StillHolds, Placing, placingOf, addedTo, placedIn}
-use Rattle.draft.specs.Exploration.{Drawing, drawingOf, goOnBy, goOn, codeOf, landedSquare, withPlaced, startDrawing}
+use Rattle.draft.specs.Exploration.{Graph, graphOf, goOnBy, goOn, codeOf, landedSquare, withPlaced, startGraph}
 use Rattle.draft.specs.Exploration.{withSuccessor, successorsFrom, withRow, rowsFrom}
 use Rattle.draft.specs.Asked.{Roomy, Grown}
 use Rattle.draft.specs.declared.fronts.Front.{Front}
@@ -79,11 +79,11 @@ count-more nodes nodes′ count p narrow ws e =
     omega arith
 
 -- ---- the start node
-pub start-drawn : (x : Index) (y : Square) (nodes nodes′ : List ℕ) (p : Placed) {f : Front} → FrontOf f (x .start) (zoneFrom (x .clocks) y) →
+pub start-built : (x : Index) (y : Square) (nodes nodes′ : List ℕ) (p : Placed) {f : Front} → FrontOf f (x .start) (zoneFrom (x .clocks) y) →
     placingOf p nodes′ ≡ placedIn (f .narrow) (take (f .size) (f .list)) (frontsOf nodes 0) →
-    drawingOf (record { stop = p .stop; nodes = p .count; codes = 0 }) nodes′ [] ≡ startDrawing x y
-unfolding startDrawing listOf
-start-drawn x y nodes nodes′ p ef ep =
+    graphOf (record { stop = p .stop; nodes = p .count; codes = 0 }) nodes′ [] ≡ startGraph x y
+unfolding startGraph listOf
+start-built x y nodes nodes′ p ef ep =
     ap (λ (q : Placing). record { stop = q .stop; fronts = q .fronts; codes = [] }) (ep ∙ front-placed [] ef)
 
 -- ---- an edge
@@ -102,7 +102,7 @@ module _
     (ey : y ≡ resetSquare (maskOf w) reach) (ei : i ≡ zoneAt (m .zones) (landsAt w)) (e? : inside ≡ inside? y i) (ez : z ≡ landedSquare y i)
     (ef : FrontOf f (landsAt w) (zoneFrom (m .index .clocks) z)) (still : StillHolds nodes nodes′ (p .count))
     (ep : placingOf p nodes′ ≡ placedIn (f .narrow) (take (f .size) (f .list)) (frontsOf nodes (x .nodes))) where
-  placed-as : withSuccessor m reach w (drawingOf x nodes codes) ≡ withPlaced (not inside) (placingOf p nodes′) (drawingOf x nodes codes)
+  placed-as : withSuccessor m reach w (graphOf x nodes codes) ≡ withPlaced (not inside) (placingOf p nodes′) (graphOf x nodes codes)
   unfolding withSuccessor
   placed-as = rw (← ey, ← ei, ← e?, ← ez, ep, front-placed (frontsOf nodes (x .nodes)) ef)
 
@@ -110,7 +110,7 @@ module _
   more = count-more nodes nodes′ (x .nodes) p (f .narrow) (take (f .size) (f .list)) ep
 
   pub successor-ended : {r : Extent} → r ≡ record { stop = p .stop; nodes = p .count; codes = x .codes } → (p .stop ≡ stop.None → ⊥) →
-      Grown nodes codes nodes′ codes x r 1 × (drawingOf r nodes′ codes ≡ withSuccessor m reach w (drawingOf x nodes codes))
+      Grown nodes codes nodes′ codes x r 1 × (graphOf r nodes′ codes ≡ withSuccessor m reach w (graphOf x nodes codes))
   unfolding withPlaced
   successor-ended er n = rw er (
     record {
@@ -126,8 +126,8 @@ module _
 
   pub successor-coded : (c : ℕ) → p .stop ≡ stop.None → x .codes < length codes → c ≡ codeOf (p .number) (not inside) →
       Grown nodes codes nodes′ (set codes (x .codes) c) x (record { stop = stop.None; nodes = p .count; codes = x .codes + 1 }) 1 ×
-      (drawingOf (record { stop = stop.None; nodes = p .count; codes = x .codes + 1 }) nodes′ (set codes (x .codes) c) ≡
-      withSuccessor m reach w (drawingOf x nodes codes))
+      (graphOf (record { stop = stop.None; nodes = p .count; codes = x .codes + 1 }) nodes′ (set codes (x .codes) c) ≡
+      withSuccessor m reach w (graphOf x nodes codes))
   unfolding withPlaced goOnBy
   successor-coded c n h e = (
     record {
@@ -146,8 +146,8 @@ module _ (m : Kept) (waited : Square) (a : ℕ) {reach guard : Square} {empty : 
     (eg : guard ≡ zoneAt (m .zones) (guardsAt + a)) (er : reach ≡ common waited guard) (e? : empty ≡ empty? reach) where
   pub row-blocked : {nodes codes : List ℕ} {x : Extent} → empty ≡ true → Roomy nodes codes x 4 →
       Grown nodes codes nodes (set codes (x .codes) 255) x (record { stop = stop.None; nodes = x .nodes; codes = x .codes + 1 }) 4 ×
-      (drawingOf (record { stop = stop.None; nodes = x .nodes; codes = x .codes + 1 }) nodes (set codes (x .codes) 255) ≡
-      withRow m waited a (drawingOf x nodes codes))
+      (graphOf (record { stop = stop.None; nodes = x .nodes; codes = x .codes + 1 }) nodes (set codes (x .codes) 255) ≡
+      withRow m waited a (graphOf x nodes codes))
   unfolding withRow
   row-blocked {nodes} {codes} {x} t room =
       let r = room .room in (
@@ -162,7 +162,7 @@ module _ (m : Kept) (waited : Square) (a : ℕ) {reach guard : Square} {empty : 
         sym (rw (← eg, ← er, ← e?, t, add-one (x .codes), take-suc-set codes (x .codes) 255 (omega arith))),
       )
 
-  pub row-successors : (d : Drawing) → empty ≡ false → successorsFrom m reach (edgesAt (m .index) a) (getD (m .index .edges) a 0) d ≡ withRow m waited a d
+  pub row-successors : (d : Graph) → empty ≡ false → successorsFrom m reach (edgesAt (m .index) a) (getD (m .index .edges) a 0) d ≡ withRow m waited a d
   unfolding withRow
   row-successors d t = sym (rw (← eg, ← er, ← e?, t))
 
@@ -174,16 +174,16 @@ one-left m n h = omega arith
 
 -- before number k, of those from `first` up to `last`: all come to `goal`. Each has so many codes at most, and there is room for a total
 pub record AtTurn
-    (F : ℕ → ℕ → Drawing → Drawing) (each total : ℕ) (nodes₀ codes₀ : List ℕ) (x₀ : Extent) (goal : Drawing) (first last : ℕ)
+    (F : ℕ → ℕ → Graph → Graph) (each total : ℕ) (nodes₀ codes₀ : List ℕ) (x₀ : Extent) (goal : Graph) (first last : ℕ)
     (nodes codes : List ℕ) (x : Extent) (k : ℕ) : Type 0 where
   pub from : first ≤ k
   pub room : x₀ .codes + total ≤ length codes₀
   pub grown : Grown nodes₀ codes₀ nodes codes x₀ x total
   pub few : x .codes + (last - k) * each ≤ x₀ .codes + total
-  pub onward : goal ≡ F (last - k) k (drawingOf x nodes codes)
+  pub onward : goal ≡ F (last - k) k (graphOf x nodes codes)
 
-pub turns-begin : (F : ℕ → ℕ → Drawing → Drawing) (each total first last : ℕ) {nodes codes : List ℕ} {x : Extent} {goal : Drawing} →
-    Roomy nodes codes x total → (last - first) * each ≤ total → goal ≡ F (last - first) first (drawingOf x nodes codes) →
+pub turns-begin : (F : ℕ → ℕ → Graph → Graph) (each total first last : ℕ) {nodes codes : List ℕ} {x : Extent} {goal : Graph} →
+    Roomy nodes codes x total → (last - first) * each ≤ total → goal ≡ F (last - first) first (graphOf x nodes codes) →
     AtTurn F each total nodes codes x goal first last nodes codes x first
 turns-begin F each total first last room h e = record {
   from = omega arith;
@@ -193,10 +193,10 @@ turns-begin F each total first last room h e = record {
   onward = e;
 }
 
-module _ {F : ℕ → ℕ → Drawing → Drawing} {each total : ℕ} {nodes₀ codes₀ : List ℕ} {x₀ : Extent} {goal : Drawing} {first last : ℕ}
+module _ {F : ℕ → ℕ → Graph → Graph} {each total : ℕ} {nodes₀ codes₀ : List ℕ} {x₀ : Extent} {goal : Graph} {first last : ℕ}
     {nodes codes : List ℕ} {x : Extent} {k : ℕ} (i : AtTurn F each total nodes₀ codes₀ x₀ goal first last nodes codes x k) where
-  pub turns-end : ((k : ℕ) (d : Drawing) → F 0 k d ≡ d) → last ≤ k → Grown nodes₀ codes₀ nodes codes x₀ x total × (drawingOf x nodes codes ≡ goal)
-  turns-end none h = let e : last - k ≡ 0 = omega arith in (i .grown, sym (i .onward ∙ rw e (none k (drawingOf x nodes codes))))
+  pub turns-end : ((k : ℕ) (d : Graph) → F 0 k d ≡ d) → last ≤ k → Grown nodes₀ codes₀ nodes codes x₀ x total × (graphOf x nodes codes ≡ goal)
+  turns-end none h = let e : last - k ≡ 0 = omega arith in (i .grown, sym (i .onward ∙ rw e (none k (graphOf x nodes codes))))
 
   module _ (h : k < last) where
     fewer : x .codes + ((last - suc k) * each + each) ≤ x₀ .codes + total
@@ -209,8 +209,8 @@ module _ {F : ℕ → ℕ → Drawing → Drawing} {each total : ℕ} {nodes₀ 
         let c = i .grown .codeRoom in
         record { holds = i .grown .holds; room = omega arith }
 
-    module _ {nodes′ codes′ : List ℕ} {y : Extent} (G : ℕ → Drawing → Drawing) (one : (n k : ℕ) (d : Drawing) → F (suc n) k d ≡ goOn (G k d) (F n (suc k)))
-        (g : Grown nodes codes nodes′ codes′ x y each) (e : drawingOf y nodes′ codes′ ≡ G k (drawingOf x nodes codes)) where
+    module _ {nodes′ codes′ : List ℕ} {y : Extent} (G : ℕ → Graph → Graph) (one : (n k : ℕ) (d : Graph) → F (suc n) k d ≡ goOn (G k d) (F n (suc k)))
+        (g : Grown nodes codes nodes′ codes′ x y each) (e : graphOf y nodes′ codes′ ≡ G k (graphOf x nodes codes)) where
       grown-more : Grown nodes₀ codes₀ nodes′ codes′ x₀ y total
       grown-more =
           let f = fewer in
@@ -224,10 +224,10 @@ module _ {F : ℕ → ℕ → Drawing → Drawing} {each total : ℕ} {nodes₀ 
             few = let b = g .few in omega arith;
           }
 
-      one-turn : goal ≡ goOn (drawingOf y nodes′ codes′) (F (last - suc k) (suc k))
+      one-turn : goal ≡ goOn (graphOf y nodes′ codes′) (F (last - suc k) (suc k))
       one-turn = i .onward ∙ rw (one-left last k h, one, e)
 
-      pub turn-stops : (y .stop ≡ stop.None → ⊥) → Grown nodes₀ codes₀ nodes′ codes′ x₀ y total × (drawingOf y nodes′ codes′ ≡ goal)
+      pub turn-stops : (y .stop ≡ stop.None → ⊥) → Grown nodes₀ codes₀ nodes′ codes′ x₀ y total × (graphOf y nodes′ codes′ ≡ goal)
       turn-stops n = (grown-more, sym (one-turn ∙ ended (y .stop) _ _ n))
 
       pub turn-next : y .stop ≡ stop.None → AtTurn F each total nodes₀ codes₀ x₀ goal first last nodes′ codes′ y (k + 1)
@@ -245,19 +245,19 @@ module _ {F : ℕ → ℕ → Drawing → Drawing} {each total : ℕ} {nodes₀ 
           })
 
 module _ (m : Kept) (y : Square) where
-  pub no-successors : (k : ℕ) (d : Drawing) → successorsFrom m y 0 k d ≡ d
+  pub no-successors : (k : ℕ) (d : Graph) → successorsFrom m y 0 k d ≡ d
   unfolding successorsFrom
   no-successors k d = refl
 
-  pub one-successor : (n k : ℕ) (d : Drawing) →
+  pub one-successor : (n k : ℕ) (d : Graph) →
       successorsFrom m y (suc n) k d ≡ goOn (withSuccessor m y (getD (m .edges) k 0) d) (successorsFrom m y n (suc k))
   unfolding successorsFrom
   one-successor n k d = refl
 
-  pub no-rows : (k : ℕ) (d : Drawing) → rowsFrom m y 0 k d ≡ d
+  pub no-rows : (k : ℕ) (d : Graph) → rowsFrom m y 0 k d ≡ d
   unfolding rowsFrom
   no-rows k d = refl
 
-  pub one-row : (n k : ℕ) (d : Drawing) → rowsFrom m y (suc n) k d ≡ goOn (withRow m y k d) (rowsFrom m y n (suc k))
+  pub one-row : (n k : ℕ) (d : Graph) → rowsFrom m y (suc n) k d ≡ goOn (withRow m y k d) (rowsFrom m y n (suc k))
   unfolding rowsFrom
   one-row n k d = refl

@@ -18,7 +18,7 @@ use Rattle.model.proofs.ZoneLaws.{same-at}
 use Rattle.table.specs.Fields.{locationOf}
 use Rattle.judge.specs.Reaching.{waitedSquare}
 use Rattle.draft.specs.Nodes.{frontAt, frontsOf, Holds}
-use Rattle.draft.specs.Exploration.{Drawing, drawingOf, rowsFrom, withNode, nodesFrom, exploredFrom, startDrawing, Explored, exploredAs, ExploredIn, goOnBy}
+use Rattle.draft.specs.Exploration.{Graph, graphOf, rowsFrom, withNode, nodesFrom, exploredFrom, startGraph, Explored, exploredAs, ExploredIn, goOnBy}
 use Rattle.draft.specs.Asked.{ModelAsked, Located, Roomy, Grown, EndsFit}
 use Rattle.draft.specs.Values.{beginOf}
 use Rattle.draft.specs.Writing.{FinishesAfter}
@@ -40,14 +40,14 @@ module _ (nodes : List ℕ) (x : Extent) (n : ℕ) (h : n < x .nodes) where
 
     module _ (m : Kept) (codes : List ℕ) where
       pub node-target : getD (m .index .targets) l false ≡ true → Roomy nodes codes x 128 →
-          Grown nodes codes nodes codes x x 128 × (drawingOf x nodes codes ≡ withNode m n (drawingOf x nodes codes))
+          Grown nodes codes nodes codes x x 128 × (graphOf x nodes codes ≡ withNode m n (graphOf x nodes codes))
       unfolding withNode
       node-target t room = (grown-none room, sym (rw (front-there, ← e, t)))
 
       pub node-rows : {y i waited : Square} → getD (m .index .targets) l false ≡ false → y ≡ readZone (m .index .clocks) (drop 1 (frontAt nodes n)) .zone →
           i ≡ zoneAt (m .zones) l → waited ≡ waitedSquare y i →
-          rowsFrom m waited (getD (m .index .actions) (l + 1) 0 - getD (m .index .actions) l 0) (getD (m .index .actions) l 0) (drawingOf x nodes codes) ≡
-          withNode m n (drawingOf x nodes codes)
+          rowsFrom m waited (getD (m .index .actions) (l + 1) 0 - getD (m .index .actions) l 0) (getD (m .index .actions) l 0) (graphOf x nodes codes) ≡
+          withNode m n (graphOf x nodes codes)
       unfolding withNode
       node-rows t ey ei ew = sym (rw (front-there, ← e, t, ← ey, ← ei, ← ew))
 
@@ -88,11 +88,11 @@ module _ (m : Kept) where
     pub fits : EndsFit codes ends
     pub rises : (k : ℕ) → k < n → beginOf ends k ≤ getD ends k 0
     pub last : beginOf ends n ≤ x .codes
-    pub onward : goal ≡ nodesFrom m (64 - n) n (take n ends) (drawingOf x nodes codes)
+    pub onward : goal ≡ nodesFrom m (64 - n) n (take n ends) (graphOf x nodes codes)
 
   pub nodes-begin : {nodes codes ends : List ℕ} {x : Extent} → Located (m .index .locations) (frontsOf nodes (x .nodes)) → Holds nodes (x .nodes) →
       x .codes ≡ 0 → EndsFit codes ends →
-      AtNode nodes codes ends (nodesFrom m 64 0 [] (drawingOf x nodes codes)) nodes codes ends x 0
+      AtNode nodes codes ends (nodesFrom m 64 0 [] (graphOf x nodes codes)) nodes codes ends x 0
   unfolding beginOf
   nodes-begin located holds none fits = record {
     nodeRoom = refl;
@@ -113,7 +113,7 @@ module _ (m : Kept) where
       (i : AtNode nodes₀ codes₀ ends₀ goal nodes codes ends x n) where
     -- every node is explored
     module _ (all : x .nodes ≤ n) where
-      no-more : (k : ℕ) → nodesFrom m k n (take n ends) (drawingOf x nodes codes) ≡ exploredAs (drawingOf x nodes codes) (take n ends)
+      no-more : (k : ℕ) → nodesFrom m k n (take n ends) (graphOf x nodes codes) ≡ exploredAs (graphOf x nodes codes) (take n ends)
       unfolding nodesFrom
       no-more zero = refl
       no-more (suc k) =
@@ -123,12 +123,12 @@ module _ (m : Kept) where
       pub nodes-end : ExploredIn nodes codes ends x goal ×
           ((Holds nodes (x .nodes) × Located (m .index .locations) (frontsOf nodes (x .nodes)) × (x .codes ≤ 8192)) × FinishesAfter nodes codes ends x)
       nodes-end =
-          let e : goal ≡ exploredAs (drawingOf x nodes codes) (take n ends) = i .onward ∙ no-more (64 - n) in
+          let e : goal ≡ exploredAs (graphOf x nodes codes) (take n ends) = i .onward ∙ no-more (64 - n) in
           let found = i .found in
           let few = i .few in
           let within = i .within in
           let q : x .nodes ≡ n = omega arith in (
-            record { drawingIs = rw e; endsAre = λ _. rw (e, q) },
+            record { graphIs = rw e; endsAre = λ _. rw (e, q) },
             (
               (i .holds, i .located, omega arith),
               record { finishes = λ _. record { holds = i .holds; fits = i .fits; rises = λ k h. i .rises k (omega arith) } },
@@ -136,11 +136,11 @@ module _ (m : Kept) where
           )
 
     module _ (asked : ModelAsked m) (h : n < 64) (there : n < x .nodes) {nodes′ codes′ : List ℕ} {y : Extent} (g : Grown nodes codes nodes′ codes′ x y 128)
-        (e : drawingOf y nodes′ codes′ ≡ withNode m n (drawingOf x nodes codes)) where
+        (e : graphOf y nodes′ codes′ ≡ withNode m n (graphOf x nodes codes)) where
       located-still : Located (m .index .locations) (frontsOf nodes′ (y .nodes))
       located-still =
           let s = fronts-length nodes (x .nodes) in
-          rw (ap (λ (d : Drawing). d .fronts) e) (located-node m asked n (drawingOf x nodes codes) (omega arith) (i .located))
+          rw (ap (λ (d : Graph). d .fronts) e) (located-node m asked n (graphOf x nodes codes) (omega arith) (i .located))
 
       codes-few : y .codes ≤ suc n * 128
       codes-few = let a = g .few in let b = i .few in omega arith
@@ -153,8 +153,8 @@ module _ (m : Kept) where
           length-take-le (y .codes) codes′ (omega arith)
 
       one-node : goal ≡
-          goOnBy (y .stop) (exploredAs (drawingOf y nodes′ codes′) (take n ends))
-          (nodesFrom m (64 - suc n) (suc n) (take n ends ++ (y .codes ∷ [])) (drawingOf y nodes′ codes′))
+          goOnBy (y .stop) (exploredAs (graphOf y nodes′ codes′) (take n ends))
+          (nodesFrom m (64 - suc n) (suc n) (take n ends ++ (y .codes ∷ [])) (graphOf y nodes′ codes′))
       unfolding nodesFrom
       one-node =
           let s = fronts-length nodes (x .nodes) in
@@ -163,9 +163,9 @@ module _ (m : Kept) where
       pub node-stops : (y .stop ≡ stop.None → ⊥) → ExploredIn nodes′ codes′ ends y goal ×
           ((Holds nodes′ (y .nodes) × Located (m .index .locations) (frontsOf nodes′ (y .nodes)) × (y .codes ≤ 8192)) × FinishesAfter nodes′ codes′ ends y)
       node-stops un =
-          let q : goal ≡ exploredAs (drawingOf y nodes′ codes′) (take n ends) = one-node ∙ ended (y .stop) _ _ un in
+          let q : goal ≡ exploredAs (graphOf y nodes′ codes′) (take n ends) = one-node ∙ ended (y .stop) _ _ un in
           let few = codes-few in (
-            record { drawingIs = rw q; endsAre = λ is. absurd (un is) },
+            record { graphIs = rw q; endsAre = λ is. absurd (un is) },
             ((g .holds, located-still, omega arith), record { finishes = λ is. absurd (un is) }),
           )
 
@@ -200,21 +200,21 @@ module _ (m : Kept) where
           })
 
 -- ---- from the start node on
-module _ (m : Kept) (y : Square) (nodes : List ℕ) (x : Extent) (e : drawingOf x nodes [] ≡ startDrawing (m .index) y) where
+module _ (m : Kept) (y : Square) (nodes : List ℕ) (x : Extent) (e : graphOf x nodes [] ≡ startGraph (m .index) y) where
   pub start-located : m .index .start < m .index .locations → m .index .locations ≤ 16 → Located (m .index .locations) (frontsOf nodes (x .nodes))
-  start-located h few = rw (ap (λ (d : Drawing). d .fronts) e) (located-start (m .index) y h few)
+  start-located h few = rw (ap (λ (d : Graph). d .fronts) e) (located-start (m .index) y h few)
 
   -- all of it, by what `explore` is asked for
-  pub explored-on : (codes : List ℕ) → x .codes ≡ 0 → x .stop ≡ stop.None → nodesFrom m 64 0 [] (drawingOf x nodes codes) ≡ exploredFrom m y
+  pub explored-on : (codes : List ℕ) → x .codes ≡ 0 → x .stop ≡ stop.None → nodesFrom m 64 0 [] (graphOf x nodes codes) ≡ exploredFrom m y
   unfolding exploredFrom goOnBy
   explored-on codes none is =
-      let f : drawingOf x nodes codes ≡ drawingOf x nodes [] = rw none in
-      let s : startDrawing (m .index) y .stop ≡ stop.None = sym (ap (λ (d : Drawing). d .stop) e) ∙ is in
+      let f : graphOf x nodes codes ≡ graphOf x nodes [] = rw none in
+      let s : startGraph (m .index) y .stop ≡ stop.None = sym (ap (λ (d : Graph). d .stop) e) ∙ is in
       ap (nodesFrom m 64 0 []) (f ∙ e) ∙ rw s
 
-  pub explored-not : (x .stop ≡ stop.None → ⊥) → exploredAs (startDrawing (m .index) y) [] ≡ exploredFrom m y
+  pub explored-not : (x .stop ≡ stop.None → ⊥) → exploredAs (startGraph (m .index) y) [] ≡ exploredFrom m y
   unfolding exploredFrom
-  explored-not un = sym (ended (startDrawing (m .index) y .stop) _ _ (λ q. un (ap (λ (d : Drawing). d .stop) e ∙ q)))
+  explored-not un = sym (ended (startGraph (m .index) y .stop) _ _ (λ q. un (ap (λ (d : Graph). d .stop) e ∙ q)))
 
 -- before exploring no node has codes
 pub no-ends : (codes : List ℕ) (n : ℕ) → 8192 + 128 ≤ length codes → 64 ≤ n → EndsFit codes (replicate n 0)

@@ -27,39 +27,39 @@ use Rattle.drafting.proofs.ExploreLaws.{Ready, Grown, grown-ready, grown-trans,
 use Rattle.drafting.proofs.ValuedRows.{ValuedAll}
 use Rattle.draft.specs.Fronts.{zoneFrom}
 use Rattle.draft.specs.Nodes.{Placing}
-use Rattle.draft.specs.Exploration.{Drawing, drawing, withNode, Explored, exploredAs, goOnBy, startDrawing, exploredFrom}
+use Rattle.draft.specs.Exploration.{Graph, graph, withNode, Explored, exploredAs, goOnBy, startGraph, exploredFrom}
 use Rattle.draft.specs.Exploration.{nodesFrom as exploredNodes}
 use Rattle.draft.specs.declared.nodes.Stop.the-variants as stop
 use Rattle.draft.proofs.Coding.{Coded}
 use Rattle.draft.proofs.SmallestLaws.{zone-bounds}
 use Rattle.draft.proofs.LandedLaws.{start-square}
 use Rattle.draft.proofs.PlacingLaws.{Places, placed, fullNodes, farBounds, placed-first}
-use Rattle.draft.proofs.DrawingLaws.{Draws, drawn, endedNodes, endedBounds, draws-as, draws-result, AllDrawn, none-drawn, node-cons}
+use Rattle.draft.proofs.GraphLaws.{Builds, built, endedNodes, endedBounds, builds-as, builds-result, AllBuilt, none-built, node-cons}
 use Rattle.draft.proofs.ExploringLaws.{node-right}
 
--- what is drawn of the nodes, and where the codes of each end, behind the codes `before` and the ends `endsBefore`
-abbrev DrawsNodes : Model → (Answer (Progress (List (List FoundRow))) → Type 0) → ℕ → List ℕ → List ℕ → Explored → Type 0
-DrawsNodes M P n before endsBefore X = Draws P (AllDrawn M n before endsBefore (X .ends)) (X .drawn)
+-- what is built of the nodes, and where the codes of each end, behind the codes `before` and the ends `endsBefore`
+abbrev BuildsNodes : Model → (Answer (Progress (List (List FoundRow))) → Type 0) → ℕ → List ℕ → List ℕ → Explored → Type 0
+BuildsNodes M P n before endsBefore X = Builds P (AllBuilt M n before endsBefore (X .ends)) (X .built)
 
--- what ends before its time ends all; ends are then those before
+-- a refusal ends all; ends are then those before
 ends-then : {A : Type 0} {P : Answer (Progress A) → Type 0} {Q : Progress A → List ℕ → Type 0} (M : Model)
-    (P′ : Answer (Progress (List (List FoundRow))) → Type 0) (n : ℕ) (before endsBefore : List ℕ) (f : Drawing → Explored) {d : Drawing} →
-    Draws P Q d → (P (refused 58 0) → P′ (refused 58 0)) → (P (refused 59 0) → P′ (refused 59 0)) →
+    (P′ : Answer (Progress (List (List FoundRow))) → Type 0) (n : ℕ) (before endsBefore : List ℕ) (f : Graph → Explored) {d : Graph} →
+    Builds P Q d → (P (refused 58 0) → P′ (refused 58 0)) → (P (refused 59 0) → P′ (refused 59 0)) →
     ((s : Progress A) (cs : List ℕ) → P (accepted s) → Q s cs →
-    DrawsNodes M P′ n before endsBefore (f (drawing stop.None (map frontWords (s .found)) cs))) →
-    DrawsNodes M P′ n before endsBefore (goOnBy (d .stop) (exploredAs d endsBefore) (f d))
+    BuildsNodes M P′ n before endsBefore (f (graph stop.None (map frontWords (s .found)) cs))) →
+    BuildsNodes M P′ n before endsBefore (goOnBy (d .stop) (exploredAs d endsBefore) (f d))
 unfolding goOnBy
-ends-then M P′ n before endsBefore f (drawn s cs p q) nodes bounds go = go s cs p q
+ends-then M P′ n before endsBefore f (built s cs p q) nodes bounds go = go s cs p q
 ends-then M P′ n before endsBefore f (endedNodes fs cs p) nodes bounds go = endedNodes fs cs (nodes p)
 ends-then M P′ n before endsBefore f (endedBounds fs cs p) nodes bounds go = endedBounds fs cs (bounds p)
 
 module _ {M : Model} {m : Kept} (x : Indexed M m) (good : GoodModel M) (formed : WellFormed M) where
   -- ---- the nodes from number n on, k of them at most
   nodes-right : (k n : ℕ) → 64 ≤ k + n → (found : List Found) → Ready M found → (cs endsBefore : List ℕ) →
-      DrawsNodes M (nodesFrom M k n found) n cs endsBefore (exploredNodes m k n endsBefore (drawing stop.None (map frontWords found) cs))
+      BuildsNodes M (nodesFrom M k n found) n cs endsBefore (exploredNodes m k n endsBefore (graph stop.None (map frontWords found) cs))
   unfolding exploredNodes
   nodes-right zero n all found ready cs endsBefore =
-      drawn (record { found = found; result = [] }) cs refl (none-drawn n found cs endsBefore (let g = ready .few in omega arith))
+      built (record { found = found; result = [] }) cs refl (none-built n found cs endsBefore (let g = ready .few in omega arith))
   nodes-right (suc k) n all found ready cs endsBefore =
       rw (length-map found frontWords)
       (by (ltb n (length found)) refl (λ s r ds ends. nodes-right k (suc n) (omega arith) s r ds ends))
@@ -70,29 +70,29 @@ module _ {M : Model} {m : Kept} (x : Indexed M m) (good : GoodModel M) (formed :
       As : List Action
       As = rowActions (locationAt M (F .location))
 
-      next : Drawing
-      next = withNode m n (drawing stop.None (map frontWords found) cs)
+      next : Graph
+      next = withNode m n (graph stop.None (map frontWords found) cs)
 
-      more : Drawing → Explored
+      more : Graph → Explored
       more d = exploredNodes m k (suc n) (endsBefore ++ (length (d .codes) ∷ [])) d
 
       by : (c : Bool) → ltb n (length found) ≡ c →
           ((later : List Found) → Ready M later → (ds ends : List ℕ) →
-          DrawsNodes M (nodesFrom M k (suc n) later) (suc n) ds ends (exploredNodes m k (suc n) ends (drawing stop.None (map frontWords later) ds))) →
-          DrawsNodes M (nodesFrom M (suc k) n found) n cs endsBefore
+          BuildsNodes M (nodesFrom M k (suc n) later) (suc n) ds ends (exploredNodes m k (suc n) ends (graph stop.None (map frontWords later) ds))) →
+          BuildsNodes M (nodesFrom M (suc k) n found) n cs endsBefore
           (cond c (goOnBy (next .stop) (exploredAs next endsBefore) (more next))
-          (exploredAs (drawing stop.None (map frontWords found) cs) endsBefore))
+          (exploredAs (graph stop.None (map frontWords found) cs) endsBefore))
       by false e rest =
           let over : length found ≤ n = ltb-false n (length found) e in
-          drawn (record { found = found; result = [] }) cs (inl (over, refl)) (none-drawn n found cs endsBefore over)
+          built (record { found = found; result = [] }) cs (inl (over, refl)) (none-built n found cs endsBefore over)
       by true e rest =
           let less : n < length found = ltb-true n (length found) e in
           ends-then M (nodesFrom M (suc k) n found) n cs endsBefore more (node-right x good formed found ready n less cs)
           (λ p. inr (less, inr (58, 0, p, refl))) (λ p. inr (less, inr (59, 0, p, refl)))
           (λ s bs p q.
           let first = rows-found M formed F As (rows-formed formed (F .location)) ready s p .grown in
-          draws-as (λ a h. inr (less, inl (s, p, h)))
-          (draws-result (nodesFrom M k (suc n) (s .found)) (λ rows. s .result ∷ rows)
+          builds-as (λ a h. inr (less, inl (s, p, h)))
+          (builds-result (nodesFrom M k (suc n) (s .found)) (λ rows. s .result ∷ rows)
           (rest (s .found) (grown-ready first) bs (endsBefore ++ (length bs ∷ [])))
           (λ t ds p′ q′.
           let all : Grown M found (t .found) = grown-trans first (nodes-found M formed k (suc n) (omega arith) (grown-ready first) t p′ .grown) in
@@ -102,27 +102,27 @@ module _ {M : Model} {m : Kept} (x : Indexed M m) (good : GoodModel M) (formed :
 
   -- ---- from the start zone, whose table is y
   module _ (y : Square) (initial : y ≡ startSquare (m .index .start) (m .zones)) where
-    start-draws : (p : Placing) → Places (nodeFor (M .clocks) (M .start) (startZone M) []) p →
-        Draws (nodeFor (M .clocks) (M .start) (startZone M) []) (λ s cs. cs ≡ []) (drawing (p .stop) (p .fronts) [])
-    start-draws _ (placed Fs n h) = drawn (record { found = Fs; result = n }) [] h refl
-    start-draws _ (fullNodes n fs h) = endedNodes fs [] h
-    start-draws _ (farBounds n fs h) = endedBounds fs [] h
+    start-builds : (p : Placing) → Places (nodeFor (M .clocks) (M .start) (startZone M) []) p →
+        Builds (nodeFor (M .clocks) (M .start) (startZone M) []) (λ s cs. cs ≡ []) (graph (p .stop) (p .fronts) [])
+    start-builds _ (placed Fs n h) = built (record { found = Fs; result = n }) [] h refl
+    start-builds _ (fullNodes n fs h) = endedNodes fs [] h
+    start-builds _ (farBounds n fs h) = endedBounds fs [] h
 
-    start-right : Draws (nodeFor (M .clocks) (M .start) (startZone M) []) (λ s cs. cs ≡ []) (startDrawing (m .index) y)
-    unfolding startDrawing
+    start-right : Builds (nodeFor (M .clocks) (M .start) (startZone M) []) (λ s cs. cs ≡ []) (startGraph (m .index) y)
+    unfolding startGraph
     start-right =
         rw (initial, x .start, x .clocks)
-        (start-draws _
+        (start-builds _
         (placed-first (M .clocks) (M .start) (startZone M) (zoneFrom (M .clocks) (startSquare (M .start) (m .zones)))
         (zone-bounds (M .clocks) (formed .clocks) (start-square x good (formed .start)))))
 
-    all-right : DrawsNodes M (exploring M []) 0 [] [] (exploredFrom m y)
+    all-right : BuildsNodes M (exploring M []) 0 [] [] (exploredFrom m y)
     unfolding exploredFrom
     all-right =
         ends-then M (exploring M []) 0 [] [] (exploredNodes m 64 0 []) start-right
         (λ p. inr (58, 0, p, refl)) (λ p. inr (59, 0, p, refl))
         (λ s cs p q. rw q
-        (draws-as (λ a h. inl (s, p, h))
+        (builds-as (λ a h. inl (s, p, h))
         (nodes-right 64 0 (omega arith) (s .found)
         (grown-ready (node-found formed (formed .start) (startZone M) (record { few = zero-le; all = empty }) s p .grown)) [] [])))
 
@@ -134,17 +134,17 @@ pub record AllExplored (M : Model) (X : Explored) : Type 0 where
   pub rows : List (List FoundRow)
   pub valued : List Valued
   pub explores : exploring M [] (accepted (record { found = found; result = rows }))
-  pub fronts : X .drawn .fronts ≡ map frontWords found
+  pub fronts : X .built .fronts ≡ map frontWords found
   pub values : ValuedAll M found rows valued
-  pub coded : Coded rows valued (X .drawn .codes) (X .ends)
+  pub coded : Coded rows valued (X .built .codes) (X .ends)
 
 pub record ExploredRight (M : Model) (X : Explored) : Type 0 where
-  pub all : X .drawn .stop ≡ stop.None → AllExplored M X
-  pub nodes : X .drawn .stop ≡ stop.Nodes → exploring M [] (refused 58 0)
-  pub bounds : X .drawn .stop ≡ stop.Bounds → exploring M [] (refused 59 0)
+  pub all : X .built .stop ≡ stop.None → AllExplored M X
+  pub nodes : X .built .stop ≡ stop.Nodes → exploring M [] (refused 58 0)
+  pub bounds : X .built .stop ≡ stop.Bounds → exploring M [] (refused 59 0)
 
-by-stop : {M : Model} (d : Drawing) (ends : List ℕ) → DrawsNodes M (exploring M []) 0 [] [] (exploredAs d ends) → ExploredRight M (exploredAs d ends)
-by-stop _ ends (drawn s cs p q) = record {
+by-stop : {M : Model} (d : Graph) (ends : List ℕ) → BuildsNodes M (exploring M []) 0 [] [] (exploredAs d ends) → ExploredRight M (exploredAs d ends)
+by-stop _ ends (built s cs p q) = record {
   all = λ _. record {
     found = s .found;
     rows = s .result;
@@ -170,4 +170,4 @@ by-stop _ ends (endedBounds fs cs p) = record {
 
 pub explored-right : {M : Model} {m : Kept} → Indexed M m → GoodModel M → WellFormed M → (y : Square) →
     y ≡ startSquare (m .index .start) (m .zones) → ExploredRight M (exploredFrom m y)
-explored-right {m = m} x good formed y initial = by-stop (exploredFrom m y .drawn) (exploredFrom m y .ends) (all-right x good formed y initial)
+explored-right {m = m} x good formed y initial = by-stop (exploredFrom m y .built) (exploredFrom m y .ends) (all-right x good formed y initial)

@@ -34,7 +34,7 @@ use Rattle.drafting.proofs.ValuedRows.{noEdge, noRow}
 use Rattle.drafting.proofs.KnownRows.{fit-good}
 use Rattle.draft.specs.Fronts.{zoneFrom}
 use Rattle.draft.specs.Nodes.{Placing}
-use Rattle.draft.specs.Exploration.{drawing, goOnBy, outside?, landedSquare, withPlaced, withSuccessor, successorsFrom, withRow, rowsFrom, withNode}
+use Rattle.draft.specs.Exploration.{graph, goOnBy, outside?, landedSquare, withPlaced, withSuccessor, successorsFrom, withRow, rowsFrom, withNode}
 use Rattle.draft.specs.declared.nodes.Stop.the-variants as stop
 use Rattle.draft.proofs.NodeLaws.{map-at}
 use Rattle.draft.proofs.Coding.{shareCodes, rowsCodes}
@@ -42,8 +42,8 @@ use Rattle.draft.proofs.LimitLaws.{SquareFor}
 use Rattle.draft.proofs.SmallestLaws.{zone-bounds, zone-smallest}
 use Rattle.draft.proofs.LandedLaws.{landed-square, landed-tells}
 use Rattle.draft.proofs.PlacingLaws.{front-location, Places, placed, fullNodes, farBounds, placed-right}
-use Rattle.draft.proofs.DrawingLaws.{Draws, drawn, endedNodes, endedBounds, draws-as, draws-result, draws-then, EdgeDrawn, EdgesDrawn, RowDrawn, RowsDrawn}
-use Rattle.draft.proofs.DrawingLaws.{edge-cons, row-cons}
+use Rattle.draft.proofs.GraphLaws.{Builds, built, endedNodes, endedBounds, builds-as, builds-result, builds-then, EdgeBuilt, EdgesBuilt, RowBuilt, RowsBuilt}
+use Rattle.draft.proofs.GraphLaws.{edge-cons, row-cons}
 
 -- ---- the bounds of a node, read back from its words
 
@@ -76,14 +76,14 @@ module _ {M : Model} {m : Kept} (x : Indexed M m) (good : GoodModel M) (formed :
 
     module _ (filled : empty? reach ≡ false) where
       -- the node of an edge, and its code
-      placed-draws : (e : Edge) → FormedEdge M e → (S : Zone) (found : List Found) (cs : List ℕ) (p : Placing) →
+      placed-builds : (e : Edge) → FormedEdge M e → (S : Zone) (found : List Found) (cs : List ℕ) (p : Placing) →
           ((s : Answer (Progress ℕ)) → nodeFor (M .clocks) (e .to) S found s → successorFor M F A e found s) →
           Places (nodeFor (M .clocks) (e .to) S found) p →
-          Draws (successorFor M F A e found) (λ s. EdgeDrawn M F cs A e (s .result))
-          (withPlaced (outside? (resetSquare (e .mask) reach) (zoneAt (m .zones) (e .to))) p (drawing stop.None (map frontWords found) cs))
+          Builds (successorFor M F A e found) (λ s. EdgeBuilt M F cs A e (s .result))
+          (withPlaced (outside? (resetSquare (e .mask) reach) (zoneAt (m .zones) (e .to))) p (graph stop.None (map frontWords found) cs))
       unfolding withPlaced goOnBy
-      placed-draws e f S found cs _ g (placed Fs n h) =
-          drawn (record { found = Fs; result = n }) _ (g _ h) (record {
+      placed-builds e f S found cs _ g (placed Fs n h) =
+          built (record { found = Fs; result = n }) _ (g _ h) (record {
             share = record { weight = e .weight; node = n; outside = outside? (resetSquare (e .mask) reach) (zoneAt (m .zones) (e .to)) };
             is = record {
               weight = refl;
@@ -92,12 +92,12 @@ module _ {M : Model} {m : Kept} (x : Indexed M m) (good : GoodModel M) (formed :
             };
             codes = refl;
           })
-      placed-draws e f S found cs _ g (fullNodes n fs h) = endedNodes fs cs (g _ h)
-      placed-draws e f S found cs _ g (farBounds n fs h) = endedBounds fs cs (g _ h)
+      placed-builds e f S found cs _ g (fullNodes n fs h) = endedNodes fs cs (g _ h)
+      placed-builds e f S found cs _ g (farBounds n fs h) = endedBounds fs cs (g _ h)
 
       successor-right : (u : ℕ) → FormedEdge M (edgeOf u) → (found : List Found) → Ready M found → (cs : List ℕ) →
-          Draws (successorFor M F A (edgeOf u) found) (λ s. EdgeDrawn M F cs A (edgeOf u) (s .result))
-          (withSuccessor m reach u (drawing stop.None (map frontWords found) cs))
+          Builds (successorFor M F A (edgeOf u) found) (λ s. EdgeBuilt M F cs A (edgeOf u) (s .result))
+          (withSuccessor m reach u (graph stop.None (map frontWords found) cs))
       unfolding withSuccessor
       successor-right u f found ready cs =
           let C : ℕ = M .clocks in
@@ -105,34 +105,34 @@ module _ {M : Model} {m : Kept} (x : Indexed M m) (good : GoodModel M) (formed :
           let squared : SquareFor _ y = landed-square x good F (w .location) zone-good (i .at) (i .good) filled (edgeOf u) (f .to) in
           let Z : Zone = zoneFrom C y in
           rw (x .clocks)
-          (placed-draws (edgeOf u) f Z found cs _ (λ s h. (Z, zone-smallest C (formed .clock) (formed .clocks) squared, h))
+          (placed-builds (edgeOf u) f Z found cs _ (λ s h. (Z, zone-smallest C (formed .clock) (formed .clocks) squared, h))
           (placed-right formed few-locations (landsAt u) (f .to) Z (own-bounds C Z (zone-bounds C (formed .clocks) squared)) found ready))
 
       successors-right : (k : ℕ) (es : List Edge) → Each (EdgeAt m) k es → All (FormedEdge M) es → (found : List Found) → Ready M found →
           (cs : List ℕ) →
-          Draws (successorsFor M F A es found) (λ s. EdgesDrawn M F cs A es (s .result))
-          (successorsFrom m reach (length es) k (drawing stop.None (map frontWords found) cs))
+          Builds (successorsFor M F A es found) (λ s. EdgesBuilt M F cs A es (s .result))
+          (successorsFrom m reach (length es) k (graph stop.None (map frontWords found) cs))
       unfolding successorsFrom Each shareCodes
       successors-right k [] h empty found ready cs =
-          drawn (record { found = found; result = [] }) cs refl (record { shares = []; are = noEdge; codes = sym (append-nil cs) })
+          built (record { found = found; result = [] }) cs refl (record { shares = []; are = noEdge; codes = sym (append-nil cs) })
       successors-right k (e ∷ es) h (more f fs) found ready cs =
-          draws-then (successorFor M F A e found) (λ s. andThen (successorsFor M F A es) (λ ns. done (s .result ∷ ns)) (s .found))
+          builds-then (successorFor M F A e found) (λ s. andThen (successorsFor M F A es) (λ ns. done (s .result ∷ ns)) (s .found))
           (successorsFrom m reach (length es) (suc k)) first
-          (λ s bs p q. draws-result (successorsFor M F A es (s .found)) (λ ns. s .result ∷ ns)
+          (λ s bs p q. builds-result (successorsFor M F A es (s .found)) (λ ns. s .result ∷ ns)
           (successors-right (suc k) es (h .1) fs (s .found) (grown-ready (node-found formed (f .to) (p .0) ready s (p .2) .grown)) bs)
           (λ t ds p′ q′. edge-cons q q′))
         where
-          first : Draws (successorFor M F A e found) (λ s. EdgeDrawn M F cs A e (s .result))
-              (withSuccessor m reach (getD (m .edges) k 0) (drawing stop.None (map frontWords found) cs))
+          first : Builds (successorFor M F A e found) (λ s. EdgeBuilt M F cs A e (s .result))
+              (withSuccessor m reach (getD (m .edges) k 0) (graph stop.None (map frontWords found) cs))
           first =
               subst
               (λ (e : Edge). FormedEdge M e →
-              Draws (successorFor M F A e found) (λ s. EdgeDrawn M F cs A e (s .result))
-              (withSuccessor m reach (getD (m .edges) k 0) (drawing stop.None (map frontWords found) cs)))
+              Builds (successorFor M F A e found) (λ s. EdgeBuilt M F cs A e (s .result))
+              (withSuccessor m reach (getD (m .edges) k 0) (graph stop.None (map frontWords found) cs)))
               (h .0 .reads) (λ f. successor-right (getD (m .edges) k 0) f found ready cs) f
 
     row-right : (found : List Found) → Ready M found → (cs : List ℕ) →
-        Draws (rowFor M F A found) (λ s. RowDrawn M F cs A (s .result)) (withRow m (waited F) a (drawing stop.None (map frontWords found) cs))
+        Builds (rowFor M F A found) (λ s. RowBuilt M F cs A (s .result)) (withRow m (waited F) a (graph stop.None (map frontWords found) cs))
     unfolding withRow
     row-right found ready cs = rw (edges-at (i .at)) (by (empty? reach) refl)
       where
@@ -140,35 +140,35 @@ module _ {M : Model} {m : Kept} (x : Indexed M m) (good : GoodModel M) (formed :
         tells = reached x good (asNode F) (w .location) zone-good (i .at) (i .good)
 
         by : (c : Bool) → empty? reach ≡ c →
-            Draws (rowFor M F A found) (λ s. RowDrawn M F cs A (s .result))
-            (cond c (drawing stop.None (map frontWords found) (cs ++ (255 ∷ [])))
-            (successorsFrom m reach (length (A .edges)) (getD (m .index .edges) a 0) (drawing stop.None (map frontWords found) cs)))
-        by true e = drawn (record { found = found; result = blocked }) _ (inl (tells .blocked-pass e, refl)) refl
+            Builds (rowFor M F A found) (λ s. RowBuilt M F cs A (s .result))
+            (cond c (graph stop.None (map frontWords found) (cs ++ (255 ∷ [])))
+            (successorsFrom m reach (length (A .edges)) (getD (m .index .edges) a 0) (graph stop.None (map frontWords found) cs)))
+        by true e = built (record { found = found; result = blocked }) _ (inl (tells .blocked-pass e, refl)) refl
         by false e =
-            draws-as (λ s h. inr (tells .blocked-fail e, h))
-            (draws-result (successorsFor M F A (A .edges) found) toNodes
+            builds-as (λ s h. inr (tells .blocked-fail e, h))
+            (builds-result (successorsFor M F A (A .edges) found) toNodes
             (successors-right e (getD (m .index .edges) a 0) (A .edges) (i .at .edges) (i .formed .edges) found ready cs) (λ s ds p q. q))
 
   -- ---- the rows of a node
   rows-right : (F : Found) → Writable M F → (a : ℕ) (As : List Action) → Each (ActionIs M m) a As → (found : List Found) → Ready M found →
       (cs : List ℕ) →
-      Draws (rowsFor M F As found) (λ s. RowsDrawn M F cs As (s .result))
-      (rowsFrom m (waited F) (length As) a (drawing stop.None (map frontWords found) cs))
+      Builds (rowsFor M F As found) (λ s. RowsBuilt M F cs As (s .result))
+      (rowsFrom m (waited F) (length As) a (graph stop.None (map frontWords found) cs))
   unfolding rowsFrom Each rowsCodes
   rows-right F w a [] h found ready cs =
-      drawn (record { found = found; result = [] }) cs refl (record { shares = []; are = noRow; codes = sym (append-nil cs) })
+      built (record { found = found; result = [] }) cs refl (record { shares = []; are = noRow; codes = sym (append-nil cs) })
   rows-right F w a (A ∷ As) h found ready cs =
-      draws-then (rowFor M F A found) (λ s. andThen (rowsFor M F As) (λ rs. done (s .result ∷ rs)) (s .found))
+      builds-then (rowFor M F A found) (λ s. andThen (rowsFor M F As) (λ rs. done (s .result ∷ rs)) (s .found))
       (rowsFrom m (waited F) (length As) (suc a)) (row-right F w (h .0) found ready cs)
-      (λ s bs p q. draws-result (rowsFor M F As (s .found)) (λ rs. s .result ∷ rs)
+      (λ s bs p q. builds-result (rowsFor M F As (s .found)) (λ rs. s .result ∷ rs)
       (rows-right F w (suc a) As (h .1) (s .found) (grown-ready (row-found M formed F A (h .0 .formed) ready s p .grown)) bs)
       (λ t ds p′ q′. row-cons (s .result) q q′))
 
   -- those of its location, none at a target
   pub node-right : (found : List Found) → Ready M found → (n : ℕ) → n < length found → (cs : List ℕ) →
-      Draws (rowsFor M (getD found n noFound) (rowActions (locationAt M (getD found n noFound .location))) found)
-      (λ s. RowsDrawn M (getD found n noFound) cs (rowActions (locationAt M (getD found n noFound .location))) (s .result))
-      (withNode m n (drawing stop.None (map frontWords found) cs))
+      Builds (rowsFor M (getD found n noFound) (rowActions (locationAt M (getD found n noFound .location))) found)
+      (λ s. RowsBuilt M (getD found n noFound) cs (rowActions (locationAt M (getD found n noFound .location))) (s .result))
+      (withNode m n (graph stop.None (map frontWords found) cs))
   unfolding withNode rowActions rowsFrom Each
   node-right found ready n h cs =
       rw (
@@ -190,8 +190,8 @@ module _ {M : Model} {m : Kept} (x : Indexed M m) (good : GoodModel M) (formed :
       L = locationAt M (F .location)
 
       by : (c : Bool) →
-          Draws (rowsFor M F (cond c [] (L .actions)) found) (λ s. RowsDrawn M F cs (cond c [] (L .actions)) (s .result))
-          (cond c (drawing stop.None (map frontWords found) cs)
-          (rowsFrom m (waited F) (length (L .actions)) (getD (m .index .actions) (F .location) 0) (drawing stop.None (map frontWords found) cs)))
+          Builds (rowsFor M F (cond c [] (L .actions)) found) (λ s. RowsBuilt M F cs (cond c [] (L .actions)) (s .result))
+          (cond c (graph stop.None (map frontWords found) cs)
+          (rowsFrom m (waited F) (length (L .actions)) (getD (m .index .actions) (F .location) 0) (graph stop.None (map frontWords found) cs)))
       by true = rows-right F w 0 [] tt found ready cs
       by false = rows-right F w _ (L .actions) (actions-at M m x good formed (F .location) (w .location)) found ready cs

@@ -9,7 +9,7 @@ pub mod SmallestLaws
 pub mod LandedLaws
 pub mod PlacingLaws
 pub mod Coding
-pub mod DrawingLaws
+pub mod GraphLaws
 pub mod ExploringLaws
 pub mod ExploredLaws
 pub mod LocatedLaws

@@ -23,7 +23,7 @@ use Rattle.judge.specs.Reaching.{common}
 use Rattle.drafting.specs.Words.{frontWords}
 use Rattle.draft.specs.Fronts.{zoneFrom}
 use Rattle.draft.specs.Nodes.{frontAt, frontsOf, placedIn}
-use Rattle.draft.specs.Exploration.{Drawing, goOnBy, withPlaced, landedSquare, startDrawing}
+use Rattle.draft.specs.Exploration.{Graph, goOnBy, withPlaced, landedSquare, startGraph}
 use Rattle.draft.specs.Exploration.{withSuccessor, successorsFrom, withRow, rowsFrom, withNode}
 use Rattle.draft.specs.Asked.{ActionAsked, ModelAsked, Located}
 use Rattle.draft.specs.declared.nodes.Stop.{Stop}
@@ -56,15 +56,15 @@ module _ (L : ℕ) where
     located-placed : (narrow : Bool) → Located L (placedIn narrow ws fs .fronts)
     located-placed = placed-keeps (Located L) ws fs i located-more
 
-  located-going : (s : Stop) (d e : Drawing) → Located L (d .fronts) → Located L (e .fronts) → Located L (goOnBy s d e .fronts)
+  located-going : (s : Stop) (d e : Graph) → Located L (d .fronts) → Located L (e .fronts) → Located L (goOnBy s d e .fronts)
   unfolding goOnBy
   located-going stop.None d e i j = j
   located-going stop.Nodes d e i j = i
   located-going stop.Bounds d e i j = i
 
 -- the start node
-pub located-start : (x : Index) (y : Square) → x .start < x .locations → x .locations ≤ 16 → Located (x .locations) (startDrawing x y .fronts)
-unfolding startDrawing
+pub located-start : (x : Index) (y : Square) → x .start < x .locations → x .locations ≤ 16 → Located (x .locations) (startGraph x y .fronts)
+unfolding startGraph
 located-start x y h few =
     let f = front-location (record { location = x .start; zone = zoneFrom (x .clocks) y }) (omega arith) in
     located-placed (x .locations) _ (rw f h) [] (located-none (x .locations)) _
@@ -74,7 +74,7 @@ module _ (m : Kept) (asked : ModelAsked m) where
   abbrev L : ℕ
   L = m .index .locations
 
-  located-successor : (reach : Square) (w : ℕ) (d : Drawing) → landsAt w < L → Located L (d .fronts) → Located L (withSuccessor m reach w d .fronts)
+  located-successor : (reach : Square) (w : ℕ) (d : Graph) → landsAt w < L → Located L (d .fronts) → Located L (withSuccessor m reach w d .fronts)
   unfolding withSuccessor withPlaced
   located-successor reach w d h i =
       let y = resetSquare (maskOf w) reach in
@@ -84,7 +84,7 @@ module _ (m : Kept) (asked : ModelAsked m) where
       let p = located-placed L (frontWords (record { location = landsAt w; zone = Z })) (rw f h) (d .fronts) i _ in
       located-going L _ _ _ p p
 
-  located-successors : (reach : Square) (n e : ℕ) (d : Drawing) → ((k : ℕ) → e ≤ k → k < e + n → landsAt (getD (m .edges) k 0) < L) →
+  located-successors : (reach : Square) (n e : ℕ) (d : Graph) → ((k : ℕ) → e ≤ k → k < e + n → landsAt (getD (m .edges) k 0) < L) →
       Located L (d .fronts) → Located L (successorsFrom m reach n e d .fronts)
   unfolding successorsFrom
   located-successors reach zero e d lands i = i
@@ -92,15 +92,15 @@ module _ (m : Kept) (asked : ModelAsked m) where
       let j = located-successor reach (getD (m .edges) e 0) d (lands e (omega arith) (omega arith)) i in
       located-going L _ _ _ j (located-successors reach n (suc e) _ (λ k g h. lands k (omega arith) (omega arith)) j)
 
-  located-row : (waited : Square) (a : ℕ) (d : Drawing) → ActionAsked m a → Located L (d .fronts) → Located L (withRow m waited a d .fronts)
+  located-row : (waited : Square) (a : ℕ) (d : Graph) → ActionAsked m a → Located L (d .fronts) → Located L (withRow m waited a d .fronts)
   unfolding withRow edgesAt
   located-row waited a d action i =
       let first = getD (m .index .edges) a 0 in
       let end = getD (m .index .edges) (a + 1) 0 in
-      by-test (λ (e : Drawing). Located L (e .fronts)) (empty? (common waited (zoneAt (m .zones) (guardsAt + a)))) _ _ (λ _. i)
+      by-test (λ (e : Graph). Located L (e .fronts)) (empty? (common waited (zoneAt (m .zones) (guardsAt + a)))) _ _ (λ _. i)
       (λ _. located-successors (common waited (zoneAt (m .zones) (guardsAt + a))) (end - first) first d (λ k g h. action .lands k g (rw (← add-one a) (omega arith))) i)
 
-  located-rows : (waited : Square) (n a : ℕ) (d : Drawing) → ((k : ℕ) → a ≤ k → k < a + n → ActionAsked m k) →
+  located-rows : (waited : Square) (n a : ℕ) (d : Graph) → ((k : ℕ) → a ≤ k → k < a + n → ActionAsked m k) →
       Located L (d .fronts) → Located L (rowsFrom m waited n a d .fronts)
   unfolding rowsFrom
   located-rows waited zero a d actions i = i
@@ -108,11 +108,11 @@ module _ (m : Kept) (asked : ModelAsked m) where
       let j = located-row waited a d (actions a (omega arith) (omega arith)) i in
       located-going L _ _ _ j (located-rows waited n (suc a) _ (λ k g h. actions k (omega arith) (omega arith)) j)
 
-  pub located-node : (n : ℕ) (d : Drawing) → n < length (d .fronts) → Located L (d .fronts) → Located L (withNode m n d .fronts)
+  pub located-node : (n : ℕ) (d : Graph) → n < length (d .fronts) → Located L (d .fronts) → Located L (withNode m n d .fronts)
   unfolding withNode
   located-node n d h i =
       let l = locationOf (getD (getD (d .fronts) n []) 0 0) in
       let first = getD (m .index .actions) l 0 in
       let end = getD (m .index .actions) (l + 1) 0 in
-      by-test (λ (e : Drawing). Located L (e .fronts)) (getD (m .index .targets) l false) _ _ (λ _. i)
+      by-test (λ (e : Graph). Located L (e .fronts)) (getD (m .index .targets) l false) _ _ (λ _. i)
       (λ _. located-rows _ (end - first) first d (λ k g q. asked .actions l (i .at n h) k g (rw (← add-one l) (omega arith))) i)

@@ -52,7 +52,7 @@ pub record Finishes (nodes codes ends : List ℕ) (count : ℕ) : Type 0 where
   pub fits : EndsFit codes ends
   pub rises : (n : ℕ) → n < count → beginOf ends n ≤ getD ends n 0
 
--- so they are after exploring, unless it has ended before its time
+-- so the stores are after exploring, unless it is refused
 pub record FinishesAfter (nodes codes ends : List ℕ) (x : Extent) : Type 0 where
   pub finishes : x .stop ≡ stop.None → Finishes nodes codes ends (x .nodes)
 

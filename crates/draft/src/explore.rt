@@ -9,8 +9,8 @@ ghost use Rattle.model.specs.Index.{keep};
 ghost use Rattle.table.specs.Scan.{edgesAt};
 ghost use Rattle.draft.specs.Fronts.{Clocks};
 ghost use Rattle.draft.specs.Nodes.{frontsOf, Holds};
-ghost use Rattle.draft.specs.Exploration.{drawingOf, ExploredIn, codeOf, landedSquare, withSuccessor, successorsFrom, withRow, rowsFrom, withNode};
-ghost use Rattle.draft.specs.Exploration.{nodesFrom, startDrawing};
+ghost use Rattle.draft.specs.Exploration.{graphOf, ExploredIn, codeOf, landedSquare, withSuccessor, successorsFrom, withRow, rowsFrom, withNode};
+ghost use Rattle.draft.specs.Exploration.{nodesFrom, startGraph};
 ghost use Rattle.draft.specs.Asked.{ActionAsked, ModelAsked, Located, Roomy, Grown, EndsFit};
 ghost use Rattle.draft.specs.Writing.{FinishesAfter};
 use crate::fronts;
@@ -72,7 +72,7 @@ pub(crate) fn successor(
 ) -> Extent
     requires { ⌜ ModelAsked (keep index (now edges) (now zones)) × Tightens 1 reach × (e < 128) × (landsAt (getD (now edges) e 0) < index .locations) × Roomy (now nodes) (now codes) extent 1 ⌝ }
     ensures grows { λ r. ⌜ Grown (now (nodes .entry)) (now (codes .entry)) (now (nodes .exit)) (now (codes .exit)) extent r 1 ⌝ }
-    ensures finds { λ r. ⌜ drawingOf r (now (nodes .exit)) (now (codes .exit)) ≡ withSuccessor (keep index (now (edges .entry)) (now (zones .entry))) reach (getD (now (edges .entry)) e 0) (drawingOf extent (now (nodes .entry)) (now (codes .entry))) ⌝ }
+    ensures finds { λ r. ⌜ graphOf r (now (nodes .exit)) (now (codes .exit)) ≡ withSuccessor (keep index (now (edges .entry)) (now (zones .entry))) reach (getD (now (edges .entry)) e 0) (graphOf extent (now (nodes .entry)) (now (codes .entry))) ⌝ }
 {
     let edge = edges[e];
     let to = fields::lands_at(edge);
@@ -111,7 +111,7 @@ pub(crate) fn successors(
 ) -> Extent
     requires { ⌜ ModelAsked (keep index (now edges) (now zones)) × Tightens 1 reach × (a < 32) × ActionAsked (keep index (now edges) (now zones)) a × Roomy (now nodes) (now codes) extent 4 ⌝ }
     ensures grows { λ r. ⌜ Grown (now (nodes .entry)) (now (codes .entry)) (now (nodes .exit)) (now (codes .exit)) extent r 4 ⌝ }
-    ensures finds { λ r. ⌜ drawingOf r (now (nodes .exit)) (now (codes .exit)) ≡ successorsFrom (keep index (now (edges .entry)) (now (zones .entry))) reach (edgesAt index a) (getD (index .edges) a 0) (drawingOf extent (now (nodes .entry)) (now (codes .entry))) ⌝ }
+    ensures finds { λ r. ⌜ graphOf r (now (nodes .exit)) (now (codes .exit)) ≡ successorsFrom (keep index (now (edges .entry)) (now (zones .entry))) reach (edgesAt index a) (getD (index .edges) a 0) (graphOf extent (now (nodes .entry)) (now (codes .entry))) ⌝ }
 {
     let mut found = extent;
     for e in index.edges[a] as usize..index.edges[a + 1] as usize {
@@ -137,7 +137,7 @@ pub(crate) fn row(
 ) -> Extent
     requires { ⌜ ModelAsked (keep index (now edges) (now zones)) × Tightens 2 waited × (a < 32) × ActionAsked (keep index (now edges) (now zones)) a × Roomy (now nodes) (now codes) extent 4 ⌝ }
     ensures grows { λ r. ⌜ Grown (now (nodes .entry)) (now (codes .entry)) (now (nodes .exit)) (now (codes .exit)) extent r 4 ⌝ }
-    ensures finds { λ r. ⌜ drawingOf r (now (nodes .exit)) (now (codes .exit)) ≡ withRow (keep index (now (edges .entry)) (now (zones .entry))) waited a (drawingOf extent (now (nodes .entry)) (now (codes .entry))) ⌝ }
+    ensures finds { λ r. ⌜ graphOf r (now (nodes .exit)) (now (codes .exit)) ≡ withRow (keep index (now (edges .entry)) (now (zones .entry))) waited a (graphOf extent (now (nodes .entry)) (now (codes .entry))) ⌝ }
 {
     let reach = reaching::common(waited, Zone::load(zones, GUARDS + a));
     if reach.is_empty() {
@@ -165,7 +165,7 @@ pub(crate) fn rows(
 ) -> Extent
     requires { ⌜ ModelAsked (keep index (now edges) (now zones)) × Tightens 2 waited × (l < index .locations) × Roomy (now nodes) (now codes) extent 128 ⌝ }
     ensures grows { λ r. ⌜ Grown (now (nodes .entry)) (now (codes .entry)) (now (nodes .exit)) (now (codes .exit)) extent r 128 ⌝ }
-    ensures finds { λ r. ⌜ drawingOf r (now (nodes .exit)) (now (codes .exit)) ≡ rowsFrom (keep index (now (edges .entry)) (now (zones .entry))) waited (getD (index .actions) (l + 1) 0 - getD (index .actions) l 0) (getD (index .actions) l 0) (drawingOf extent (now (nodes .entry)) (now (codes .entry))) ⌝ }
+    ensures finds { λ r. ⌜ graphOf r (now (nodes .exit)) (now (codes .exit)) ≡ rowsFrom (keep index (now (edges .entry)) (now (zones .entry))) waited (getD (index .actions) (l + 1) 0 - getD (index .actions) l 0) (getD (index .actions) l 0) (graphOf extent (now (nodes .entry)) (now (codes .entry))) ⌝ }
 {
     let mut found = extent;
     for a in index.actions[l] as usize..index.actions[l + 1] as usize {
@@ -190,7 +190,7 @@ pub(crate) fn explore_node(
 ) -> Extent
     requires { ⌜ ModelAsked (keep index (now edges) (now zones)) × (n < extent .nodes) × Located (index .locations) (frontsOf (now nodes) (extent .nodes)) × Roomy (now nodes) (now codes) extent 128 ⌝ }
     ensures grows { λ r. ⌜ Grown (now (nodes .entry)) (now (codes .entry)) (now (nodes .exit)) (now (codes .exit)) extent r 128 ⌝ }
-    ensures finds { λ r. ⌜ drawingOf r (now (nodes .exit)) (now (codes .exit)) ≡ withNode (keep index (now (edges .entry)) (now (zones .entry))) n (drawingOf extent (now (nodes .entry)) (now (codes .entry))) ⌝ }
+    ensures finds { λ r. ⌜ graphOf r (now (nodes .exit)) (now (codes .exit)) ≡ withNode (keep index (now (edges .entry)) (now (zones .entry))) n (graphOf extent (now (nodes .entry)) (now (codes .entry))) ⌝ }
 {
     let l = nodes::location_at(nodes, n) as usize;
     if index.targets[l] {
@@ -212,7 +212,7 @@ pub(crate) fn explore(
     start: Extent,
 ) -> Extent
     requires { ⌜ ModelAsked (keep index (now edges) (now zones)) × Located (index .locations) (frontsOf (now nodes) (start .nodes)) × Holds (now nodes) (start .nodes) × (start .codes ≡ 0) × EndsFit (now codes) (now ends) ⌝ }
-    ensures finds { λ r. ⌜ ExploredIn (now (nodes .exit)) (now (codes .exit)) (now (ends .exit)) r (nodesFrom (keep index (now (edges .entry)) (now (zones .entry))) 64 0 [] (drawingOf start (now (nodes .entry)) (now (codes .entry)))) ⌝ }
+    ensures finds { λ r. ⌜ ExploredIn (now (nodes .exit)) (now (codes .exit)) (now (ends .exit)) r (nodesFrom (keep index (now (edges .entry)) (now (zones .entry))) 64 0 [] (graphOf start (now (nodes .entry)) (now (codes .entry)))) ⌝ }
     ensures holds { λ r. ⌜ Holds (now (nodes .exit)) (r .nodes) × Located (index .locations) (frontsOf (now (nodes .exit)) (r .nodes)) × (r .codes ≤ 8192) ⌝ }
     ensures finishes { λ r. ⌜ FinishesAfter (now (nodes .exit)) (now (codes .exit)) (now (ends .exit)) r ⌝ }
 {
@@ -234,7 +234,7 @@ pub(crate) fn explore(
 // The start node.
 pub(crate) fn start(index: Index, initial: Zone, nodes: &mut [u32]) -> Extent
     requires { ⌜ Holds (now nodes) 0 × (index .start < 16) × Clocks (index .clocks) ⌝ }
-    ensures { λ r. ⌜ Holds (now (nodes .exit)) (r .nodes) × (r .codes ≡ 0) × (drawingOf r (now (nodes .exit)) [] ≡ startDrawing index initial) ⌝ }
+    ensures { λ r. ⌜ Holds (now (nodes .exit)) (r .nodes) × (r .codes ≡ 0) × (graphOf r (now (nodes .exit)) [] ≡ startGraph index initial) ⌝ }
 {
     let placed = nodes::place(
         nodes,

@@ -24,7 +24,7 @@ pub(crate) enum Known {
     Nothing,
 }
 
-// Why exploring ends before its time.
+// Why exploring is refused, if it is.
 pub(crate) enum Stop {
     None,
     Nodes, // a 65th node

@@ -94,7 +94,7 @@ explore-requires c κs =
       no-ends _ 64 (search needs) (omega arith),
     )
 
--- every node is explored, or exploring has ended before its time
+-- the moment behind the start node, from behind exploring
 abbrev placed : tie.After-explore → tie.After-start
 placed c = c .before .before .before .before .before .before .before .before .before
 

@@ -5,7 +5,7 @@ use borrow.Author.Needs.{needs}
 use types.Run.{miss}
 use mathlib.Core.List.{[]}
 use Rattle.model.specs.Index.{Kept, keep}
-use Rattle.draft.specs.Exploration.{drawingOf, nodesFrom}
+use Rattle.draft.specs.Exploration.{graphOf, nodesFrom}
 use Rattle.draft.proofs.ExploreCode.{stops}
 use Rattle.draft.proofs.ExploreNodes.{AtNode, nodes-begin, nodes-end, node-stops, node-next}
 use Rattle.draft.proofs.explore.explore.Statement.{statement}
@@ -14,7 +14,7 @@ use Rattle.draft.proofs.explore.explore.Tie as tie
 abbrev Inv-loop : tie.InvT-loop
 Inv-loop index edges zones nodes₀ codes₀ ends₀ found₀ n₀ nodes codes ends found n =
     let m : Kept = keep index edges zones in
-    AtNode m nodes₀ codes₀ ends₀ (nodesFrom m 64 0 [] (drawingOf found₀ nodes₀ codes₀)) nodes codes ends found n
+    AtNode m nodes₀ codes₀ ends₀ (nodesFrom m 64 0 [] (graphOf found₀ nodes₀ codes₀)) nodes codes ends found n
 
 abbrev μ-loop : tie.MeasureT-loop
 μ-loop index edges zones nodes₀ codes₀ ends₀ found₀ n₀ nodes codes ends found n = 64 - n

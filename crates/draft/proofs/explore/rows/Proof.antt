@@ -7,7 +7,7 @@ use borrow.Author.Needs.{needs}
 use types.Run.{miss}
 use lib.ListN.{getD}
 use Rattle.model.specs.Index.{Kept, keep}
-use Rattle.draft.specs.Exploration.{Drawing, drawingOf, withRow, rowsFrom}
+use Rattle.draft.specs.Exploration.{Graph, graphOf, withRow, rowsFrom}
 use Rattle.draft.proofs.ExploreCode.{stops, AtTurn, turns-begin, turns-end, turn-room, turn-stops, turn-next, no-rows, one-row}
 use Rattle.draft.proofs.explore.rows.Statement.{statement}
 use Rattle.draft.proofs.explore.rows.Tie as tie
@@ -15,8 +15,8 @@ use Rattle.draft.proofs.explore.rows.Tie as tie
 abbrev Inv-loop : tie.InvT-loop
 Inv-loop edges zones waited l nodes₀ codes₀ index found₀ a₀ a-end nodes codes found a =
     let m : Kept = keep index edges zones in
-    let goal : Drawing =
-    rowsFrom m waited (getD (index .actions) (l + 1) 0 - getD (index .actions) l 0) (getD (index .actions) l 0) (drawingOf found₀ nodes₀ codes₀) in
+    let goal : Graph =
+    rowsFrom m waited (getD (index .actions) (l + 1) 0 - getD (index .actions) l 0) (getD (index .actions) l 0) (graphOf found₀ nodes₀ codes₀) in
     AtTurn (rowsFrom m waited) 4 128 nodes₀ codes₀ found₀ goal (getD (index .actions) l 0) (getD (index .actions) (l + 1) 0) nodes codes found a
 
 abbrev μ-loop : tie.MeasureT-loop

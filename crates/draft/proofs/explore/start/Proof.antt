@@ -1,7 +1,7 @@
 -- Proof of `start`: the node that is placed for the zone of the start valuations is the first.
 use mathlib.Core.Path.{refl}
 use borrow.Author.Needs.{needs}
-use Rattle.draft.proofs.ExploreCode.{start-drawn}
+use Rattle.draft.proofs.ExploreCode.{start-built}
 use Rattle.draft.proofs.explore.start.Statement.{statement}
 use Rattle.draft.proofs.explore.start.Tie as tie
 
@@ -12,7 +12,7 @@ returns c =
     let s = front .before .before .before in (
       placed .place .ensures .0 .holds,
       refl,
-      start-drawn (s .args .index) (s .args .initial) (s .args .nodes .now) (placed .place .last .0) (placed .place .result) (front .front-of .ensures) (placed .place .ensures .1 .1),
+      start-built (s .args .index) (s .args .initial) (s .args .nodes .now) (placed .place .last .0) (placed .place .result) (front .front-of .ensures) (placed .place .ensures .1 .1),
     )
 
 pub start-spec : {M : Type 1} → statement M

@@ -8,7 +8,7 @@ use types.Run.{miss}
 use lib.ListN.{getD}
 use Rattle.model.specs.Index.{Kept, keep}
 use Rattle.table.specs.Scan.{edgesAt}
-use Rattle.draft.specs.Exploration.{Drawing, drawingOf, withSuccessor, successorsFrom}
+use Rattle.draft.specs.Exploration.{Graph, graphOf, withSuccessor, successorsFrom}
 use Rattle.draft.proofs.ExploreCode.{stops, AtTurn, turns-begin, turns-end, turn-room, turn-stops, turn-next, no-successors, one-successor}
 use Rattle.draft.proofs.explore.successors.Statement.{statement}
 use Rattle.draft.proofs.explore.successors.Tie as tie
@@ -16,7 +16,7 @@ use Rattle.draft.proofs.explore.successors.Tie as tie
 abbrev Inv-loop : tie.InvT-loop
 Inv-loop edges zones reach a nodes₀ codes₀ index found₀ e₀ e-end nodes codes found e =
     let m : Kept = keep index edges zones in
-    let goal : Drawing = successorsFrom m reach (edgesAt index a) (getD (index .edges) a 0) (drawingOf found₀ nodes₀ codes₀) in
+    let goal : Graph = successorsFrom m reach (edgesAt index a) (getD (index .edges) a 0) (graphOf found₀ nodes₀ codes₀) in
     AtTurn (successorsFrom m reach) 1 4 nodes₀ codes₀ found₀ goal (getD (index .edges) a 0) (getD (index .edges) (a + 1) 0) nodes codes found e
 
 abbrev μ-loop : tie.MeasureT-loop
