@@ -294,11 +294,27 @@ else
 fi
 drafts 'no round' 1000000 3 $model "$judge" --draft $model 0
 drafts 'one round' 1000000 3 $model "$judge" --draft $model 1
-for rounds in 3 002 1000 1001 18446744073709551617 99999999999999999999; do
+for rounds in 3 002 18446744073709551617 99999999999999999999; do
     drafts "$rounds rounds" 100000 3 $model "$judge" --draft $model $rounds
 done
-drafts 'no number of rounds' 100000 3 $model "$judge" --draft $model
+# SLOW of cases/draft/rounds.txt, whose value falls in every round: more than one byte of the number counts, and 1000 is the last one
+printf '%s\n' 1110FFFF 20000000 30000000 4010FFFE 40110001 20000000 60000000 51001000 >"$here/slow"
+for rounds in 255:996190 256:996175 999:985030 1000:985015 1001:985015; do
+    IFS=: read -r rounds b <<<"$rounds"
+    drafts "$rounds rounds, slow" "$b" 2 "$here/slow" "$judge" --draft "$here/slow" "$rounds"
+done
+drafts 'no number of rounds' 985015 2 "$here/slow" "$judge" --draft "$here/slow"
 if grep -q '^# drafted in 1000 rounds' "$here/drafted.hex"; then ok; else wrong 'without a number there are not 1000 rounds'; fi
+drafts 'bounds of all kinds' 660000 20 tests/drafted/model.hex "$judge" --draft tests/drafted/model.hex 3
+if cmp "$here/drafted.hex" tests/drafted/table.hex; then ok; else wrong 'tests/drafted/table.hex is not what ./judge --draft prints'; fi
+# The longest draft that there can be, of WIDE in cases/draft/lent.txt.
+{
+    printf '%s\n' 11400004 20000000 5100103F 52001001
+    for ((action = 0; action < 32; action++)); do printf '%s\n' 30000000 40E00001 40E00001 40E00001 40E00001; done
+    printf '%s\n' 60000000 51001000 52001000 53001000 54001000
+} >"$here/longest"
+drafts 'the longest draft' 1000000 64 "$here/longest" "$judge" --draft "$here/longest"
+if grep -q '64 nodes, 9602 words' "$here/drafted.hex"; then ok; else wrong 'the longest draft does not have 9602 words'; fi
 drafts 'a model of bytes' 100000 3 $model "$judge" --draft "$here/model.bin" 2
 cp "$here/model.bin" "$here/model.words"
 drafts '--bytes' 100000 3 $model "$judge" --draft --bytes "$here/model.words" 2
@@ -326,21 +342,24 @@ sed '3s/.*/51001FFF/; 5s/.*/50100001/' "$here/ticking" >"$here/far"
 says 'a bound too far' 'REFUSED 59 0' "$judge" --draft "$here/far" 0
 sed '7s/.*/40020002/' "$here/model" >"$here/weights"
 says 'a refused model' 'REFUSED 4 7' "$judge" --draft "$here/weights"
-says 'a model with a table behind it, which has no place in a draft' 'REFUSED 1 11' "$judge" --draft "$here/words.hex"
 says 'a model of odd bytes' 'REFUSED 41 0' "$judge" --draft "$here/odd.bin"
 says 'no bytes of a model to draft for' 'REFUSED 1 0' "$judge" --draft "$here/empty.bin"
 says 'a model of 65,536 bytes' 'REFUSED 1 0' "$judge" --draft "$here/zeros.bin"
 says 'a model of 65,537 bytes' 'REFUSED 42 0' "$judge" --draft "$here/more.bin"
 says 'a model of 16,385 words' 'REFUSED 42 0' "$judge" --draft "$here/over.hex"
+mum 'to draft for a model with a table behind it' 'words.hex: word 11 (from 0) is of kind 7' "$judge" --draft "$here/words.hex"
+mum 'the same in bytes, with rounds' 'both.bin: word 11 (from 0) is of kind 7' "$judge" --draft "$here/both.bin" 2
+mum 'to draft for a table' 'table: word 0 (from 0) is of kind 7' "$judge" --draft "$here/table"
 mum 'no model' 'usage:' "$judge" --draft
 mum 'no model but --bytes' 'usage:' "$judge" --draft --bytes
 mum 'three names' 'usage:' "$judge" --draft $model 2 3
 mum 'a model that is not there' 'absent.hex: no such file' "$judge" --draft "$here/absent.hex"
 mum 'a model of prose' 'README.md: line 3: "Each"' "$judge" --draft examples/README.md
-for rounds in two 1.5 0x10 +2 '' '2 3' $table; do
+for rounds in two 1.5 0x10 +2 -5 -1.5 '' '2 3' $table; do
     mum "'$rounds' rounds" "$rounds: no number of rounds" "$judge" --draft $model "$rounds"
 done
-mum 'fewer than 0 rounds' '-1: no such option' "$judge" --draft $model -1
+mum 'an unknown option behind a model' '-x: no such option' "$judge" --draft $model -x
+mum 'a number for the model' '-5: no such option' "$judge" --draft -5
 mum 'a draft that cannot be written' 'could not be written' bash -c '"$@" >/dev/full' - "$judge" --draft $model
 
 # drafter NAME TEXT SCRIPT: the script as the program that drafts

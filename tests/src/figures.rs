@@ -2,7 +2,6 @@
 //! call takes.
 
 use std::hint::black_box;
-use std::path::PathBuf;
 use std::time::{Duration, Instant};
 
 use crate::kept::{self, Kept};
@@ -30,9 +29,7 @@ impl Measured {
 /// A side by its name, its board with the slots of this input.
 pub fn side(name: &str, input: &Input) -> Option<Measured> {
     let side: Box<dyn Side> = match name {
-        "judge" => Box::new(UnderTest {
-            program: PathBuf::new(),
-        }),
+        "judge" => Box::new(UnderTest::built()),
         "reading" => Box::new(Reading),
         "plain" => Box::new(Plain),
         _ => return None,

@@ -187,8 +187,8 @@ pub fn drafts(tally: &DraftTally) -> String {
     let with = &tally.with;
     let lines = [
         format!(
-            "models with a draft: {}; with an empty node {}, a node found again {}, a way back {}, an edge that can land outside {}, a cycle that keeps V {}, 64 nodes {}, a fraction between 0 and 1 {}",
-            tally.models, with.empty, with.reused, with.back, with.outside, with.kept, with.full, with.between
+            "models with a draft: {}, small ones besides {}; with an empty node {}, a node found again {}, a way back {}, an edge that can land outside {}, a cycle that keeps V {}, 64 nodes {}, a fraction between 0 and 1 {}",
+            tally.models, tally.small, with.empty, with.reused, with.back, with.outside, with.kept, with.full, with.between
         ),
         format!(
             "models without one: by 58 {}, with 59 due at the same node {}; by 59 at node 0 {}, later {}; by the model's own refusal {}",

@@ -383,6 +383,16 @@ mod tests {
         assert!(caught.is_ok(), "{caught:?}");
     }
 
+    /// Otherwise flaws would be caught for what they share.
+    #[test]
+    fn a_flawed_draft_without_its_flaw_is_right() {
+        let side = wrong::flawed_draft(DraftFlaw::None);
+        let found = Run::new(&side, 3).drafts(&Work::SHORT);
+        assert!(found.is_ok(), "{found:?}");
+        let none = drafting::objected(&side, &mut Random::new(5), 1000);
+        assert_eq!(none, None);
+    }
+
     #[test]
     fn the_card_objects_to_flawed_drafts() {
         let objected = draft_flaws_against_law();

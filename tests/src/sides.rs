@@ -1,16 +1,18 @@
 //! The sides that are compared: the judge under test, the independent reading and the plain judge.
 
 use std::io::{ErrorKind, Write};
-use std::path::PathBuf;
+use std::path::{Path, PathBuf};
 use std::process::{ChildStdin, Command, Stdio};
 use std::thread::sleep;
 use std::time::Duration;
 
+use crate::drafting::LONGEST;
 use crate::plain;
 use crate::reading::{self, Certificate, Counts, Refusal, Slot};
+use crate::spell;
 
 /// The four calls and the program, with the answers of document 01, the two calls of document 02,
-/// card 3, and the one of its card 5.
+/// card 3, and the one of its card 5 with the program around it.
 pub trait Side {
     fn judge(&self, model: &[u32], table: &[u32]) -> Result<Certificate, Refusal>;
     fn read_model(&self, words: &[u32]) -> Result<Counts, Refusal>;
@@ -33,6 +35,21 @@ pub trait Side {
     /// Drafts a table into the first of the lent words (document 02, card 5); hands back how many
     /// they are.
     fn draft(&self, model: &[u32], rounds: u64, lent: &mut [u32]) -> Result<usize, Refusal>;
+    /// What the program that drafts prints for the rounds as a word and a model behind it. A side that has
+    /// no such program prints its own draft.
+    fn drafter(&self, rounds: u32, model: &[u32]) -> String {
+        let mut lent = vec![0; LONGEST];
+        let length = self.draft(model, rounds.into(), &mut lent);
+        drafter_lines(&length.map(|length| lent[..length].to_vec()))
+    }
+}
+
+/// The lines of the program that drafts: the words of the table, one to a line, or a refusal.
+pub fn drafter_lines(answer: &Result<Vec<u32>, Refusal>) -> String {
+    match answer {
+        Ok(table) => table.iter().map(|word| format!("{word:08X}\n")).collect(),
+        Err(Refusal { number, place }) => format!("REFUSED {number} {place}\n"),
+    }
 }
 
 /// The independent reading.
@@ -168,9 +185,42 @@ pub fn plainly_refused(plain::Refusal { number, place }: plain::Refusal) -> Refu
     Refusal { number, place }
 }
 
-/// The verified judge: its calls from the crate `miss_chance`, its program from a file.
+/// The verified judge: its calls from the crate `miss_chance`, its programs from files.
 pub struct UnderTest {
     pub program: PathBuf,
+    /// The program that drafts.
+    pub drafter: PathBuf,
+}
+
+impl UnderTest {
+    /// With the programs that are built.
+    pub fn built() -> UnderTest {
+        let programs = Path::new(env!("CARGO_MANIFEST_DIR")).join("../target/bin");
+        UnderTest {
+            program: programs.join("judge_cli"),
+            drafter: programs.join("draft_cli"),
+        }
+    }
+}
+
+/// What a program prints for these bytes on standard input.
+fn printed(program: &Path, bytes: &[u8]) -> String {
+    let run = || -> std::io::Result<String> {
+        let mut command = Command::new(program);
+        let mut child = command
+            .stdin(Stdio::piped())
+            .stdout(Stdio::piped())
+            .spawn()?;
+        let input = child.stdin.take();
+        let written = input.map_or(Ok(()), |input| write_in_parts(input, bytes));
+        let output = child.wait_with_output()?;
+        written?;
+        match output.status.success() {
+            true => Ok(String::from_utf8_lossy(&output.stdout).into_owned()),
+            false => Ok(format!("(failed: {})", output.status)),
+        }
+    };
+    run().unwrap_or_else(|error| format!("(not run: {error})"))
 }
 
 impl Side for UnderTest {
@@ -198,22 +248,7 @@ impl Side for UnderTest {
     }
 
     fn program(&self, bytes: &[u8]) -> String {
-        let run = || -> std::io::Result<String> {
-            let mut command = Command::new(&self.program);
-            let mut child = command
-                .stdin(Stdio::piped())
-                .stdout(Stdio::piped())
-                .spawn()?;
-            let input = child.stdin.take();
-            let written = input.map_or(Ok(()), |input| write_in_parts(input, bytes));
-            let output = child.wait_with_output()?;
-            written?;
-            match output.status.success() {
-                true => Ok(String::from_utf8_lossy(&output.stdout).into_owned()),
-                false => Ok(format!("(failed: {})", output.status)),
-            }
-        };
-        run().unwrap_or_else(|error| format!("(not run: {error})"))
+        printed(&self.program, bytes)
     }
 
     fn submit(
@@ -256,6 +291,11 @@ impl Side for UnderTest {
     fn draft(&self, model: &[u32], rounds: u64, lent: &mut [u32]) -> Result<usize, Refusal> {
         let answer = miss_chance::draft_into(model, rounds, lent);
         answer.result().map_err(refused)
+    }
+
+    fn drafter(&self, rounds: u32, model: &[u32]) -> String {
+        let input = spell::bytes(&[&[rounds], model].concat());
+        printed(&self.drafter, &input)
     }
 }
 

@@ -7,7 +7,8 @@ use std::panic::catch_unwind;
 use crate::raw::Ranked;
 use crate::words::Words;
 use crate::{
-    DraftLength, Emptiness, Inclusion, ModelAnswer, RankAnswer, Reason, Refusal, Verdict, SLOTS,
+    DraftLength, Emptiness, Inclusion, ModelAnswer, RankAnswer, Reason, Refusal, Verdict,
+    DRAFT_WORDS, SLOTS,
 };
 
 /// Of the numbers 1 to 99 those listed give a refusal with the same number, the others panic.
@@ -160,6 +161,13 @@ fn the_header_has_the_same_names() {
     expected.extend(names());
     let found: Vec<(u32, String)> = header.lines().filter_map(numbered).collect();
     assert_eq!(found, expected);
+}
+
+#[test]
+fn the_header_has_the_same_longest_draft() {
+    let header = text_of("bindings/c/miss_chance.h");
+    let defined = format!("#define MISS_CHANCE_DRAFT_WORDS {DRAFT_WORDS}");
+    assert!(header.lines().any(|line| line == defined), "{defined}");
 }
 
 #[test]

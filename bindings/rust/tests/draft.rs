@@ -1,5 +1,5 @@
-//! Drafts, document 02, card 5: the worked timeline, each refusal, the words that are lent, and a
-//! small stack.
+//! Drafts, document 02, card 5: the worked timeline, rounds, the longest draft, each refusal, the words
+//! that are lent, and a small stack.
 
 mod common;
 
@@ -29,6 +29,23 @@ fn ticking(d: u32) -> [u32; 9] {
         0x51001000,
         0x52001000,
     ]
+}
+
+/// All but one of 65,535 goes round: the value falls by 15 in every round after the first.
+const SLOW: [u32; 8] = [
+    0x1110FFFF, 0x20000000, 0x30000000, 0x4010FFFE, 0x40110001, 0x20000000, 0x60000000, 0x51001000,
+];
+
+/// 64 nodes, each with all 20 bounds and with four successors for each of 32 actions: whenever the
+/// other clocks are set to 0, clock 1 has had up to one unit more, but at most 63.
+fn wide() -> Vec<u32> {
+    let mut model = vec![0x11400004, 0x20000000, 0x5100103F, 0x52001001];
+    for _ in 0..32 {
+        model.push(0x30000000);
+        model.extend([0x40E00001; 4]);
+    }
+    model.extend([0x60000000, 0x51001000, 0x52001000, 0x53001000, 0x54001000]);
+    model
 }
 
 const TOO_MANY: Refusal = Refusal {
@@ -95,6 +112,31 @@ fn round_by_round() {
 }
 
 #[test]
+fn the_last_rounds_that_count() {
+    for (rounds, first) in [(999, 985_030), (1_000, 985_015), (1_001, 985_015)] {
+        let table = draft(&SLOW, rounds).result().expect("drafted");
+        let certificate = judge(&SLOW, &table).result().expect("accepted");
+        assert_eq!(certificate.b, first, "{rounds} rounds");
+    }
+}
+
+#[test]
+fn the_longest_draft() {
+    let model = wide();
+    let table = draft(&model, 1).result().expect("drafted");
+    assert_eq!(table.len(), 9_602);
+    let line = "ACCEPTED 1000000 1000000 64";
+    assert_eq!(judge(&model, &table).to_string(), line);
+    let mut lent = [7; 9_602];
+    let answer = draft_into(&model, 1, &mut lent[..9_601]);
+    assert_eq!(answer, DraftLength::Refused(TOO_FEW));
+    assert_eq!(lent, [7; 9_602]);
+    let answer = draft_into(&model, 1, &mut lent);
+    assert_eq!(answer, DraftLength::Drafted(9_602));
+    assert_eq!(lent[..], table);
+}
+
+#[test]
 fn a_refused_model() {
     let mut locations = vec![0x1110000A];
     locations.resize(18, 0x20000000);
@@ -147,7 +189,9 @@ fn lent_words() {
 #[test]
 fn in_a_thread_with_a_small_stack() {
     let small = thread::Builder::new().stack_size(256 * 1024);
-    let drafting = || [draft(&M, 1_000), draft(&ticking(1), 1_000)].map(|given| given.to_string());
+    let drafted = |model: &[u32]| draft(model, 1_000).to_string();
+    let drafting = move || [drafted(&M), drafted(&ticking(1)), drafted(&wide())];
     let lines = small.spawn(drafting).expect("a thread").join();
-    assert_eq!(lines.expect("it ends"), ["DRAFTED 16", "REFUSED 58 0"]);
+    let due = ["DRAFTED 16", "REFUSED 58 0", "DRAFTED 9602"];
+    assert_eq!(lines.expect("it ends"), due);
 }

@@ -1,6 +1,6 @@
 //! Asks the judge under test, the independent reading and the plain judge the cases of `tests/cases`.
 //!
-//! `cases [--program PATH]`: exit code 0 if every answer is the stored one and no case is lacking.
+//! `cases [--program PATH] [--drafter PATH]`: exit code 0 if every answer is the stored one and no case is lacking.
 //! `cases --words`: prints every case with all its words, and asks nothing.
 
 use std::path::{Path, PathBuf};
@@ -17,24 +17,28 @@ fn main() -> ExitCode {
         Ok(cases) => cases,
         Err(mistake) => return failed(&mistake.to_string()),
     };
+    let mut under_test = UnderTest::built();
     let arguments: Vec<String> = std::env::args().skip(1).collect();
     let arguments: Vec<&str> = arguments.iter().map(String::as_str).collect();
-    match arguments[..] {
-        [] => asked(&cases, tests.join("../target/bin/judge_cli")),
-        ["--program", program] => asked(&cases, PathBuf::from(program)),
-        ["--words"] => {
-            for case in &cases {
-                println!("{} | {}", case.name, case.question);
-            }
-            ExitCode::SUCCESS
+    if arguments == ["--words"] {
+        for case in &cases {
+            println!("{} | {}", case.name, case.question);
         }
-        _ => failed("usage: cases [--program PATH | --words]"),
+        return ExitCode::SUCCESS;
     }
+    for setting in arguments.chunks(2) {
+        match *setting {
+            ["--program", program] => under_test.program = PathBuf::from(program),
+            ["--drafter", program] => under_test.drafter = PathBuf::from(program),
+            _ => return failed("usage: cases [--program PATH] [--drafter PATH], or cases --words"),
+        }
+    }
+    asked(&cases, &under_test)
 }
 
-fn asked(cases: &[Case], program: PathBuf) -> ExitCode {
+fn asked(cases: &[Case], under_test: &UnderTest) -> ExitCode {
     let started = Instant::now();
-    let outcome = Outcome::of(cases, &UnderTest { program });
+    let outcome = Outcome::of(cases, under_test);
     print!("{}", outcome.counted());
     for difference in &outcome.differences {
         println!("{difference}");

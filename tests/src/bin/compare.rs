@@ -6,7 +6,7 @@
 //! `--long N` does the work N times, each time with other seeds.
 //! `compare --wrong`: exit code 0 if all judges, boards and drafts that are wrong on purpose are caught.
 
-use std::path::{Path, PathBuf};
+use std::path::PathBuf;
 use std::process::ExitCode;
 use std::time::Instant;
 
@@ -18,8 +18,7 @@ use outside::{report, self_check};
 const SEED: u64 = 20_240_601;
 
 struct Settings {
-    /// The program under test.
-    program: PathBuf,
+    under_test: UnderTest,
     /// How often the work is done.
     times: usize,
     wrong: bool,
@@ -45,9 +44,8 @@ fn main() -> ExitCode {
 }
 
 fn settings() -> Result<Settings, Fault> {
-    let root = Path::new(env!("CARGO_MANIFEST_DIR")).join("..");
     let mut settings = Settings {
-        program: root.join("target/bin/judge_cli"),
+        under_test: UnderTest::built(),
         times: 1,
         wrong: false,
     };
@@ -58,7 +56,7 @@ fn settings() -> Result<Settings, Fault> {
             arguments.next().ok_or(lacking)
         };
         match argument.as_str() {
-            "--program" => settings.program = PathBuf::from(value()?),
+            "--program" => settings.under_test.program = PathBuf::from(value()?),
             "--long" => {
                 let times = value()?;
                 let not_a_number = |_| Fault(format!("--long {times}: not a number"));
@@ -72,10 +70,7 @@ fn settings() -> Result<Settings, Fault> {
 }
 
 fn compare(settings: &Settings) -> Result<(), Fault> {
-    let under_test = UnderTest {
-        program: settings.program.clone(),
-    };
-    let mut run = Run::new(&under_test, SEED);
+    let mut run = Run::new(&settings.under_test, SEED);
     for _ in 0..settings.times {
         run.all(&Work::USUAL)?;
     }

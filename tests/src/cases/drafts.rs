@@ -7,7 +7,7 @@ use super::answers::{answer, Answer};
 use super::words::{number, words, Named};
 use crate::drafting::{certificate, drafted, Drafted, LONGEST};
 use crate::reading::Refusal;
-use crate::sides::Side;
+use crate::sides::{drafter_lines, Side};
 use crate::spell;
 
 #[derive(Clone, Debug, PartialEq)]
@@ -21,6 +21,9 @@ pub struct Draft {
 
 /// How a case of a draft begins.
 pub const CALL: &str = "draft(";
+
+/// How many words of a model the program that drafts takes.
+const MOST_WORDS: usize = 16_384;
 
 /// The refusal of lent words that are too few.
 const TOO_FEW: Refusal = Refusal {
@@ -127,6 +130,14 @@ impl Draft {
             held.push(("judged".to_string(), due.to_string(), judged.to_string()));
         }
         held
+    }
+
+    /// The rounds as a word, and what the program that drafts prints for them and the model, where the case
+    /// is one that it can be asked: it takes so many rounds and bytes, and lends words enough.
+    pub fn of_drafter(&self) -> Option<(u32, String)> {
+        let rounds = u32::try_from(self.rounds).ok()?;
+        let asked = self.model.len() <= MOST_WORDS && self.answer != Err(TOO_FEW);
+        asked.then(|| (rounds, drafter_lines(&self.answer)))
     }
 
     /// Model and table as one file, and what the program answers to it.

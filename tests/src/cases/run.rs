@@ -1,5 +1,5 @@
-//! Asks the judge under test, the independent reading and the plain judge every case, and the program
-//! where the case is a whole file.
+//! Asks the judge under test, the independent reading and the plain judge every case, and its programs
+//! where the case is a whole file or a draft that they take.
 
 use std::collections::BTreeMap;
 use std::fmt::Write;
@@ -12,21 +12,23 @@ use super::{Case, Question};
 use crate::sides::{Plain, Reading, Side};
 use crate::spell;
 
-/// How many cases there are at least, and how many of them are whole files. A number below means that
-/// one got lost.
-const LEAST: [(&str, &[&str], usize); 6] = [
+/// How many cases there are at least, how many of them are whole files, and how many drafts the program
+/// is asked. A number below means that one got lost.
+const LEAST: [(&str, &[&str], usize); 7] = [
     ("zone cases", &["zone_empty", "zone_inside"], 519),
     ("model cases", &["read_model"], 1627),
     ("judge cases", &["judge"], 3489),
     ("histories of a board", &["board"], 364),
-    ("drafts", &["draft"], 234),
-    ("whole files", &["program"], 5139),
+    ("drafts", &["draft"], 236),
+    ("whole files", &["program"], 5140),
+    ("drafts by the program", &["drafter"], 222),
 ];
 
 /// What a run came to.
 #[derive(Default)]
 pub struct Outcome {
-    /// Cases by call; `program` counts those that the program was asked too.
+    /// Cases by call; `program` counts those that the program was asked too, `drafter` those that the one
+    /// that drafts was.
     pub counts: BTreeMap<&'static str, usize>,
     /// Each with file, line and name of its case.
     pub differences: Vec<String>,
@@ -99,7 +101,7 @@ impl Outcome {
         }
     }
 
-    /// A draft, and the table judged, also as a whole file.
+    /// A draft, also by the program that drafts, and the table judged, also as a whole file.
     fn draft(&mut self, case: &Case, draft: &Draft, under_test: &dyn Side) {
         *self.counts.entry("draft").or_default() += 1;
         for (who, side) in sides(under_test) {
@@ -107,6 +109,11 @@ impl Outcome {
                 let asked = format!("{}: {asked}", place(case));
                 self.hold(&asked, who, &expected, &got);
             }
+        }
+        if let Some((rounds, expected)) = draft.of_drafter() {
+            *self.counts.entry("drafter").or_default() += 1;
+            let got = under_test.drafter(rounds, &draft.model);
+            self.hold(&place(case), "program that drafts", &expected, &got);
         }
         if let Some((file, answer)) = draft.whole_file() {
             self.file(case, &file, answer, under_test);
@@ -153,6 +160,7 @@ mod tests {
     use super::super::histories::Step;
     use super::super::words::Named;
     use super::*;
+    use crate::drafting::LONGEST;
     use crate::reading::{Certificate, Refusal};
     use crate::wrong::{self, right};
 
@@ -162,6 +170,16 @@ mod tests {
 
     fn stored() -> Vec<Case> {
         files::all(&root()).unwrap_or_else(|mistake| panic!("{mistake}"))
+    }
+
+    /// Without the longest draft, which takes as long as all others together: for many sides.
+    fn shorter() -> Vec<Case> {
+        let mut cases = stored();
+        cases.retain(|case| match &case.question {
+            Question::Draft(draft) => draft.answer.as_ref().map_or(0, Vec::len) < LONGEST,
+            _ => true,
+        });
+        cases
     }
 
     /// What a run over a text finds, with the reading in the place of the judge under test.
@@ -273,7 +291,7 @@ mod tests {
     /// All judges that are wrong on purpose, but for those whose flaw lies in bytes that are no words.
     #[test]
     fn wrong_judges_are_caught() {
-        let cases = stored();
+        let cases = shorter();
         let passes = |side: &wrong::Wrong| Outcome::of(&cases, side).differences.is_empty();
         let passed: Vec<String> = wrong::all()
             .into_iter()
@@ -291,24 +309,27 @@ mod tests {
     /// All drafts that are wrong on purpose.
     #[test]
     fn wrong_drafts_are_caught() {
-        let mut cases = stored();
+        let mut cases = shorter();
         cases.retain(|case| matches!(case.question, Question::Draft(_)));
         for side in wrong::drafts() {
             let outcome = Outcome::of(&cases, &side);
             assert!(!outcome.differences.is_empty(), "{}", side.name);
-            let told = |one: &String| one.contains("the library says");
+            let told = |one: &String| {
+                one.contains("the library says") || one.contains("the program that drafts says")
+            };
             assert!(outcome.differences.iter().all(told), "{}", side.name);
         }
     }
 
-    /// Every stored draft with one word changed, and every refusal of one.
+    /// Every stored draft with one word changed, of the longest every 997th, and every refusal of one.
     #[test]
     fn every_word_of_a_draft_counts() {
         for case in stored() {
             let Question::Draft(draft) = case.question else {
                 continue;
             };
-            for at in 0..draft.answer.as_ref().map_or(1, Vec::len) {
+            let words = draft.answer.as_ref().map_or(1, Vec::len);
+            for at in (0..words).step_by(if words < LONGEST { 1 } else { 997 }) {
                 let mut changed = draft.clone();
                 match &mut changed.answer {
                     Ok(table) => table[at] ^= 1,

@@ -65,7 +65,9 @@ pub fn compare(
     for _ in 0..counts.played {
         let question = Question::drawn(random, draw::small_model);
         let before = evidence.played;
-        for (_, table) in question.hold(comparer)?.unwrap_or_default() {
+        let drafts = question.hold(comparer)?.unwrap_or_default();
+        comparer.tally.drafts.small += usize::from(!drafts.is_empty());
+        for (_, table) in drafts {
             evidence.of_acceptance(&question.model, &table, &law::certificate(&table))?;
         }
         comparer.tally.drafts.played += evidence.played - before;

@@ -72,6 +72,11 @@ mod tests {
     }
 
     #[test]
+    fn the_package_has_the_same_longest_draft() {
+        assert_eq!(LONGEST, miss_chance::DRAFT_WORDS);
+    }
+
+    #[test]
     fn what_must_be_as_it_was() {
         assert_eq!(told(Ok(2), &[MARK, 1, 2, MARK]), Ok(Ok(vec![1, 2])));
         assert_eq!(told(Ok(2), &[MARK, 1, 2, MARK, MARK]), Ok(Ok(vec![1, 2])));

@@ -11,6 +11,8 @@ pub struct DraftTally {
     /// Models for which a table was drafted; of these, how many have what `Look` looks for.
     pub models: usize,
     pub with: Look,
+    /// Small models besides, for which a table was drafted.
+    pub small: usize,
     /// Models refused with 58; of these, where the 65th node has a bound beyond 4,095 as well.
     pub too_many: usize,
     pub both_due: usize,

@@ -9,6 +9,8 @@ use crate::reading::{parse_model, Refusal};
 
 #[derive(Clone, Copy, Debug, PartialEq, Eq)]
 pub enum DraftFlaw {
+    /// None: what the others spoil, and not one of `ALL`.
+    None,
     StartsWithoutTheInvariant,
     ExploresTheNewestNodeFirst,
     TakesActionsFromTheLast,
