@@ -343,6 +343,8 @@ says 'a bound too far' 'REFUSED 59 0' "$judge" --draft "$here/far" 0
 sed '7s/.*/40020002/' "$here/model" >"$here/weights"
 says 'a refused model' 'REFUSED 4 7' "$judge" --draft "$here/weights"
 says 'a model of odd bytes' 'REFUSED 41 0' "$judge" --draft "$here/odd.bin"
+{ cat "$here/model.bin" && printf '\x70'; } >"$here/odd7.bin"
+says 'a model and a byte that is no word of kind 7' 'REFUSED 41 0' "$judge" --draft "$here/odd7.bin"
 says 'no bytes of a model to draft for' 'REFUSED 1 0' "$judge" --draft "$here/empty.bin"
 says 'a model of 65,536 bytes' 'REFUSED 1 0' "$judge" --draft "$here/zeros.bin"
 says 'a model of 65,537 bytes' 'REFUSED 42 0' "$judge" --draft "$here/more.bin"
@@ -350,6 +352,7 @@ says 'a model of 16,385 words' 'REFUSED 42 0' "$judge" --draft "$here/over.hex"
 mum 'to draft for a model with a table behind it' 'words.hex: word 11 (from 0) is of kind 7' "$judge" --draft "$here/words.hex"
 mum 'the same in bytes, with rounds' 'both.bin: word 11 (from 0) is of kind 7' "$judge" --draft "$here/both.bin" 2
 mum 'to draft for a table' 'table: word 0 (from 0) is of kind 7' "$judge" --draft "$here/table"
+mum 'to draft for a table from standard input' 'standard input: word 0 (from 0) is of kind 7' bash -c '"$1" --draft - <"$2"' - "$judge" "$here/table"
 mum 'no model' 'usage:' "$judge" --draft
 mum 'no model but --bytes' 'usage:' "$judge" --draft --bytes
 mum 'three names' 'usage:' "$judge" --draft $model 2 3

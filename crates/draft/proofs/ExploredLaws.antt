@@ -126,7 +126,7 @@ module _ {M : Model} {m : Kept} (x : Indexed M m) (good : GoodModel M) (formed :
         (nodes-right 64 0 (omega arith) (s .found)
         (grown-ready (node-found formed (formed .start) (startZone M) (record { few = zero-le; all = empty }) s p .grown)) [] [])))
 
--- ---- by why exploring has ended
+-- ---- by why exploring is refused, if it is
 
 -- what is found, with its rows; the fronts, codes and ends are those of it
 pub record AllExplored (M : Model) (X : Explored) : Type 0 where

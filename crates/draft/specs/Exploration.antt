@@ -27,7 +27,7 @@ use Rattle.draft.specs.declared.nodes.Stop.{Stop}
 use Rattle.draft.specs.declared.nodes.Stop.the-variants as stop
 use Rattle.draft.specs.declared.explore.Extent.{Extent}
 
--- the zone graph as far as it is found: the front words of each node, and the codes of the rows; and why exploring has ended, if it has
+-- the zone graph as far as it is found: the front words of each node, and the codes of the rows; and why exploring is refused, if it is
 pub record Graph : Type 0 where
   pub stop : Stop
   pub fronts : List (List ℕ)
@@ -44,7 +44,7 @@ graphOf x nodes codes = graph (x .stop) (frontsOf nodes (x .nodes)) (take (x .co
 abbrev pub withCode : ℕ → Graph → Graph
 withCode c d = graph stop.None (d .fronts) (d .codes ++ (c ∷ []))
 
--- goes on, unless exploring has ended
+-- goes on, unless exploring is refused
 unfoldable pub goOnBy : {A : Type 0} → Stop → A → A → A
 goOnBy stop.None ended next = next
 goOnBy stop.Nodes ended next = ended
@@ -140,7 +140,7 @@ module _ (m : Kept) where
       let d : Graph = startGraph (m .index) y in
       goOnBy (d .stop) (exploredAs d []) (nodesFrom 64 0 [] d)
 
--- why exploring has ended, in the documents' numbers
+-- why exploring is refused, in the documents' numbers
 unfoldable pub stopAnswer : {A : Type 0} → Stop → A → Answer A
 stopAnswer stop.None a = accepted a
 stopAnswer stop.Nodes a = refused 58 0

@@ -1,4 +1,5 @@
--- A draft's answer as a number, a place and a length, for those who hand it on: the program and the call for C and Rust. Assumes nothing.
+-- Document 02, card 5: a draft's answer as a number, a place and a length, for those who hand it on: the program and the call for C and Rust. Assumes
+-- nothing.
 use Prim.Native.Nat.{ℕ}
 use Rattle.zone.specs.Checks.{Answer, refused, accepted}
 use Rattle.draft.specs.declared.numbers.Numbered.{Numbered}

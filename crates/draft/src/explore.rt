@@ -30,7 +30,7 @@ pub(crate) const BLOCKED: u8 = 255;
 
 pub(crate) const OUTSIDE: usize = 64;
 
-// How many nodes and codes are found so far, and why exploring has ended, if it has.
+// How many nodes and codes are found so far, and why exploring is refused, if it is.
 pub(crate) struct Extent {
     pub stop: Stop,
     pub nodes: usize,

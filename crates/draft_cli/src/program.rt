@@ -15,7 +15,7 @@ const MOST_WORDS: usize = 16385;
 
 pub(crate) const READ_BYTES: usize = 65541;
 
-// The longest table that can be drafted (`words-few` of `drafting`): 64 nodes, each with its word, 20 bounds, its value and rows of 128 words, and two
+// The longest table that can be drafted (`draft-few` of `drafting`): 64 nodes, each with its word, 20 bounds, its value and rows of 128 words, and two
 // words around them.
 pub(crate) const DRAFT_WORDS: usize = 9602;
 

@@ -37,18 +37,18 @@ use Rattle.drafting.proofs.DraftAccepted.{after-size, after-limited, ro
 -- ---- the parts of a good draft
 
 -- the words of what is found, with the values after the rounds
-abbrev Wrote : Model → ℕ → List ℕ → Progress (List (List FoundRow)) → Type 0
+abbrev pub Wrote : Model → ℕ → List ℕ → Progress (List (List FoundRow)) → Type 0
 Wrote M rounds words t =
     (vs : List ℕ) × Rounds M (t .found) (t .result) (min rounds 1000) (replicate (length (t .found)) whole) vs
     × (words ≡ wordsOf (t .found) vs (t .result))
 
-record GoodDraft (model : List ℕ) (rounds : ℕ) (words : List ℕ) : Type 0 where
-  reads : ReadModel model (accepted (countsOf model))
-  progress : Progress (List (List FoundRow))
-  explores : exploring (modelOf model) [] (accepted progress)
-  wrote : Wrote (modelOf model) rounds words progress
+pub record GoodDraft (model : List ℕ) (rounds : ℕ) (words : List ℕ) : Type 0 where
+  pub reads : ReadModel model (accepted (countsOf model))
+  pub progress : Progress (List (List FoundRow))
+  pub explores : exploring (modelOf model) [] (accepted progress)
+  pub wrote : Wrote (modelOf model) rounds words progress
 
-good-draft : {model : List ℕ} {rounds room : ℕ} {words : List ℕ} → Drafts model rounds room (accepted words) → GoodDraft model rounds words
+pub good-draft : {model : List ℕ} {rounds room : ℕ} {words : List ℕ} → Drafts model rounds room (accepted words) → GoodDraft model rounds words
 good-draft {model} {rounds} {room} {words} d =
     let M : Model = modelOf model in
     let first = then-parts (ReadModel model) (λ counts. onFrom (exploring M []) (Ends M rounds room)) words (d .says) in

@@ -1,18 +1,22 @@
--- No draft has more than 9,602 words, so that where as many are lent 60 is not given. Assumes nothing.
+-- No draft has more than 9,602 words, and where as many are lent 60 is not given. Assumes nothing.
 use Prim.Native.Nat.{ℕ, zero, suc, _*_, _≤_, _<_, zero-le}
-use mathlib.Core.Path.{_≡_}
+use mathlib.Core.Path.{_≡_, sym, _∙_}
 use mathlib.Core.Logic.{inl, inr}
 use mathlib.Core.Bool.{Bool, true, false, cond}
 use mathlib.Core.List.{List, [], _∷_, map}
 use native.Mathlib.Omega.{arith}
 use lib.Dec.{le→leb}
-use lib.ListN.{length, length-append, length-map}
+use lib.ListN.{getD, length, length-append, length-map}
 use Rattle.zone.specs.Scale.{Zone, Region}
 use Rattle.zone.specs.Checks.{refused, accepted}
-use Rattle.model.specs.Model.{Action, Model, modelOf}
+use Rattle.zone.proofs.CheckLaws.{first-one}
+use Rattle.model.specs.Model.{Edge, Action, Model, modelOf}
 use Rattle.model.specs.States.{locationAt}
-use Rattle.model.specs.Reading.{ReadModel}
+use Rattle.model.specs.Reading.{modelChecks, countsOf, ReadModel, modelAnswer}
 use Rattle.model.specs.declared.read.Counts.{Counts}
+use Rattle.model.specs.declared.read.ModelAnswer.{ModelAnswer}
+use Rattle.model.specs.declared.read.ModelAnswer.the-variants as answer
+use Rattle.model.proofs.Answering.{answered}
 use Rattle.model.proofs.Entries.{noWords, noKeys, zeros-fit}
 use Rattle.model.proofs.IndexLaws.{location-at}
 use Rattle.model.proofs.Indexing.{indexed}
@@ -21,10 +25,31 @@ use Rattle.model.proofs.WellFormed.{FormedAction, WellFormed, accepted-runs, ac
 use Rattle.table.specs.Table.{rowActions}
 use Rattle.acceptance.specs.Acceptance.{Pairwise}
 use Rattle.drafting.specs.Bounding.{Pair, pairsFrom, pairs, others, AllTightened, BoundsOf}
-use Rattle.drafting.specs.Exploring.{Found, FoundRow, blocked, toNodes, Progress, exploring}
+use Rattle.drafting.specs.Exploring.{
+  Found,
+  FoundRow,
+  blocked,
+  toNodes,
+  Progress,
+  Explores,
+  done,
+  onFrom,
+  andThen,
+  noFound,
+  newChecks,
+  nodeFor,
+  successorFor,
+  successorsFor,
+  rowFor,
+  rowsFor,
+  nodesFrom,
+  startZone,
+  exploring,
+}
 use Rattle.drafting.specs.Words.{word, boundWord, frontWords, rowWords, rowsWords, nodeWords, nodesWords, wordsOf}
-use Rattle.drafting.specs.Drafting.{Ends}
+use Rattle.drafting.specs.Drafting.{Ends, Drafts}
 use Rattle.drafting.proofs.ExploreLaws.{Writable, SuccessorGood, RowGood, RowsGood, rows-formed, exploring-found}
+use Rattle.drafting.proofs.DraftJudged.{good-draft}
 
 -- ---- the bounds of a node: one for each pair of clocks at most
 tightened-few : (R : Region) (ps : List Pair) (Z : Zone) → AllTightened R ps Z → length Z ≤ length ps
@@ -116,8 +141,94 @@ module _ (model : List ℕ) (counts : Counts) (reads : ReadModel model (accepted
         rw (length-append (nodesWords (t .found) vs (t .result)) (word 12 0 ∷ [])) (omega arith)
 
     -- where 9,602 words are lent, nothing is refused at the end
-    pub enough : (rounds room number place : ℕ) → 9602 ≤ room → Ends M rounds room t (refused number place) → ⊥
+    enough : (rounds room number place : ℕ) → 9602 ≤ room → Ends M rounds room t (refused number place) → ⊥
     enough rounds room number place h (vs, _, inl (_, none)) = none
     enough rounds room number place h (vs, _, inr (over, _)) =
         let few = words-few vs in
         over (le→leb (length (wordsOf (t .found) vs (t .result))) room (omega arith))
+
+pub draft-few : {model words : List ℕ} {rounds room : ℕ} → Drafts model rounds room (accepted words) → length words ≤ 9602
+draft-few {model} d =
+    let g = good-draft d in
+    rw (g .wrote .2) (words-few model (countsOf model) (g .reads) (g .progress) (g .explores) (g .wrote .0))
+
+-- ---- the refusals before the end have other numbers: 1 to 6 of the model
+answer-number : (a : ModelAnswer) (n p : ℕ) → modelAnswer a ≡ refused n p → n ≤ 6
+unfolding modelAnswer
+answer-number (answer.Accepted counts) n p e = let z : _≡_ {A = ℕ} 0 1 = cc e in absurd (omega arith)
+answer-number (answer.BadModelKind q) n p e = let z : 1 ≡ n = cc e in omega arith
+answer-number (answer.BadModelField q) n p e = let z : 2 ≡ n = cc e in omega arith
+answer-number (answer.OverModelLimit q) n p e = let z : 3 ≡ n = cc e in omega arith
+answer-number (answer.BadWeights q) n p e = let z : 4 ≡ n = cc e in omega arith
+answer-number (answer.NoLocation q) n p e = let z : 5 ≡ n = cc e in omega arith
+answer-number (answer.NoStart q) n p e = let z : 6 ≡ n = cc e in omega arith
+
+reading-number : (model : List ℕ) (n p : ℕ) → ReadModel model (refused n p) → n ≤ 6
+reading-number model n p h =
+    let right = answered model noWords noKeys zeros-fit in
+    answer-number _ n p
+    (first-one (modelChecks model) (λ counts. counts ≡ countsOf model) (λ x y e f. e ∙ sym f) _ (refused n p) (right .says) (h .says))
+
+-- 58 and 59 of exploring
+abbrev Numbers : {A : Type 0} → Explores A → Type 0
+Numbers E = (found : List Found) (n p : ℕ) → E found (refused n p) → n < 60
+
+done-numbers : {A : Type 0} (a : A) → Numbers (done a)
+done-numbers a found n p e = let z : _≡_ {A = ℕ} 0 1 = cc e in absurd (omega arith)
+
+then-numbers : {A B : Type 0} (first : Explores A) (next : A → Explores B) → Numbers first → ((a : A) → Numbers (next a)) →
+    Numbers (andThen first next)
+then-numbers first next f g found n p (inl h) = g (h .0 .result) (h .0 .found) n p (h .2)
+then-numbers first next f g found n p (inr h) = let z : n ≡ h .0 = cc (h .3) in let l = f found (h .0) (h .1) (h .2) in omega arith
+
+module _ (M : Model) where
+  node-numbers : (l : ℕ) (S : Zone) → Numbers (nodeFor (M .clocks) l S)
+  unfolding newChecks
+  node-numbers l S found n p (inl h) = done-numbers (h .0) found n p (h .3)
+  node-numbers l S found n p (inr (_, (Z, b, inl (_, inl (_, none))))) = absurd none
+  node-numbers l S found n p (inr (_, (Z, b, inl (_, inr (_, e))))) = let z : n ≡ 59 = cc e in omega arith
+  node-numbers l S found n p (inr (_, (Z, b, inr (_, e)))) = let z : n ≡ 58 = cc e in omega arith
+
+  successors-numbers : (F : Found) (A : Action) (es : List Edge) → Numbers (successorsFor M F A es)
+  successors-numbers F A [] = done-numbers []
+  successors-numbers F A (e ∷ es) =
+      then-numbers (successorFor M F A e) (λ n. andThen (successorsFor M F A es) (λ ns. done (n ∷ ns)))
+      (λ found n p h. node-numbers (e .to) (h .0) found n p (h .2))
+      (λ n. then-numbers (successorsFor M F A es) (λ ns. done (n ∷ ns)) (successors-numbers F A es) (λ ns. done-numbers (n ∷ ns)))
+
+  row-numbers : (F : Found) (A : Action) → Numbers (rowFor M F A)
+  row-numbers F A found n p (inl h) = done-numbers blocked found n p (h .1)
+  row-numbers F A found n p (inr h) =
+      then-numbers (successorsFor M F A (A .edges)) (λ ns. done (toNodes ns)) (successors-numbers F A (A .edges)) (λ ns. done-numbers (toNodes ns))
+      found n p (h .1)
+
+  rows-numbers : (F : Found) (As : List Action) → Numbers (rowsFor M F As)
+  rows-numbers F [] = done-numbers []
+  rows-numbers F (A ∷ As) =
+      then-numbers (rowFor M F A) (λ r. andThen (rowsFor M F As) (λ rs. done (r ∷ rs))) (row-numbers F A)
+      (λ r. then-numbers (rowsFor M F As) (λ rs. done (r ∷ rs)) (rows-numbers F As) (λ rs. done-numbers (r ∷ rs)))
+
+  nodes-numbers : (m k : ℕ) → Numbers (nodesFrom M m k)
+  nodes-numbers zero k found n p h = done-numbers [] found n p h
+  nodes-numbers (suc m) k found n p (inl h) = done-numbers [] found n p (h .1)
+  nodes-numbers (suc m) k found n p (inr h) =
+      let F : Found = getD found k noFound in
+      let As : List Action = rowActions (locationAt M (F .location)) in
+      then-numbers (rowsFor M F As) (λ rs. andThen (nodesFrom M m (suc k)) (λ rest. done (rs ∷ rest))) (rows-numbers F As)
+      (λ rs. then-numbers (nodesFrom M m (suc k)) (λ rest. done (rs ∷ rest)) (nodes-numbers m (suc k)) (λ rest. done-numbers (rs ∷ rest)))
+      found n p (h .1)
+
+  exploring-numbers : Numbers (exploring M)
+  exploring-numbers =
+      then-numbers (nodeFor (M .clocks) (M .start) (startZone M)) (λ n. nodesFrom M 64 0) (node-numbers (M .start) (startZone M))
+      (λ n. nodes-numbers 64 0)
+
+-- ---- where 9,602 words are lent, 60 is not given
+pub never-60 : {model : List ℕ} {rounds room place : ℕ} → 9602 ≤ room → Drafts model rounds room (refused 60 place) → ⊥
+never-60 {model} {rounds} {room} {place} h d = by (d .says)
+  where
+    by : onFrom (ReadModel model) (λ counts. onFrom (exploring (modelOf model) []) (Ends (modelOf model) rounds room)) (refused 60 place) → ⊥
+    by (inl (counts, reads, inl (t, explores, ends))) = enough model counts reads t explores rounds room 60 place h ends
+    by (inl (counts, reads, inr (n, p, e, q))) =
+        let z : 60 ≡ n = cc q in let l = exploring-numbers (modelOf model) [] n p e in absurd (omega arith)
+    by (inr (n, p, r, q)) = let z : 60 ≡ n = cc q in let l = reading-number model n p r in absurd (omega arith)

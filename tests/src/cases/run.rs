@@ -172,7 +172,7 @@ mod tests {
         files::all(&root()).unwrap_or_else(|mistake| panic!("{mistake}"))
     }
 
-    /// Without the longest draft, which takes as long as all others together: for many sides.
+    /// Without the longest draft, which takes as long as all others together: for many sides. Its refusal by 60 stays.
     fn shorter() -> Vec<Case> {
         let mut cases = stored();
         cases.retain(|case| match &case.question {
