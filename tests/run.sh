@@ -39,9 +39,16 @@ for compiler in 'gcc -std=c99' 'g++ -std=c++11'; do # g++ takes a .c file as C++
 done
 echo '== ./judge'
 tests/judge_script.sh
+echo '== the judge compared with the reading, beside what follows: it takes one core'
+cargo build --release --quiet --locked --offline --manifest-path tests/Cargo.toml --bins
+cargo run --release --quiet --locked --offline --manifest-path tests/Cargo.toml --bin compare -- "$@" >target/log/compare.out 2>&1 &
+comparing=$!
+trap 'kill "$comparing" 2>/dev/null || true' EXIT
 echo "== the reading's tests, the self-check, the cases' parser, standard input"
 cargo test --release --quiet --locked --offline --manifest-path tests/Cargo.toml
 echo '== the cases'
 cargo run --release --quiet --locked --offline --manifest-path tests/Cargo.toml --bin cases
-echo '== the judge compared with the reading'
-cargo run --release --quiet --locked --offline --manifest-path tests/Cargo.toml --bin compare -- "$@"
+echo '== what the comparison found'
+wait "$comparing" || { cat target/log/compare.out; exit 1; }
+trap - EXIT
+cat target/log/compare.out
