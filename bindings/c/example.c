@@ -5,7 +5,7 @@
  *   gcc -std=c99 -Wall -Wextra -pedantic -Ibindings/c bindings/c/example.c target/staticlib/libmiss_chance.a -o target/example
  *   target/example
  *
- * It prints `ACCEPTED 1 10 3` and `REFUSED 19 4`. Drafts are in draft.c, the board in board.c, a zone in zone.c.
+ * It prints `ACCEPTED 1 10 3` and `REFUSED 19 4`. Drafts are in draft.c, the board in board.c.
  */
 #include "miss_chance.h"
 

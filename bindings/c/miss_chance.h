@@ -4,16 +4,15 @@
  * repository says what the words are, docs/REFUSALS.md what each refusal means. Link with target/staticlib/libmiss_chance.a, which
  * `rt staticlib miss_chance` proves and writes at the repository's root (x86-64, System V calling convention).
  *
- * THE ANSWER. Each of the five calls writes its answer to the first words of `answer` and returns true. miss_chance_zone_empty writes six,
- * MISS_CHANCE_POINT_WORDS, since its answer may have a point; the other four calls write four, MISS_CHANCE_ANSWER_WORDS:
+ * THE ANSWER. Each of the five calls writes its answer to the first four words of `answer` and returns true:
  *
- *   word 0             word 1    further words
- *   0 (acceptance)     value     values           the values that the call gives, zeros where it gives fewer
- *   refusal's number   place     zeros            the place is a word index from 0, or the length where a word is lacking
+ *   word 0             word 1    word 2   word 3
+ *   0 (acceptance)     value     value    value    the values that the call gives, zeros where it gives fewer than three
+ *   refusal's number   place     0        0        the place is a word index from 0, or the length where a word is lacking
  *
- * All six or four words are written each time, so nothing of an earlier answer stays in them. Words of `answer` behind them are left as they are.
- * If `answer_words` is below what the call writes, nothing is written and the call returns false; it never returns false otherwise. The two calls
- * of the board return their answer as a struct.
+ * All four words are written each time, so nothing of an earlier answer stays in them. Words of `answer` behind the fourth are left as they are.
+ * If `answer_words` is below MISS_CHANCE_ANSWER_WORDS, nothing is written and the call returns false; it never returns false otherwise. The two
+ * calls of the board return their answer as a struct.
  *
  * WHAT THE CALLER OWES. Every list is a pointer and a length in words or slots, not in bytes. Each pointer must be non-null and aligned for its
  * type (4 bytes for uint32_t and slots, 8 for uint64_t), for a list of length 0 too, and the list must stay readable and unchanged, `answer`,
@@ -42,11 +41,8 @@
 extern "C" {
 #endif
 
-/* How many words an answer takes, but for that of miss_chance_zone_empty. */
+/* How many words an answer takes. */
 #define MISS_CHANCE_ANSWER_WORDS 4
-
-/* How many words the answer of miss_chance_zone_empty takes: the clocks of a point stand in the last four. */
-#define MISS_CHANCE_POINT_WORDS 6
 
 /*
  * No draft takes more words than this: a head and the start node, and 64 nodes, each with its word, 20 bounds, its value and rows of 128 words
@@ -126,16 +122,8 @@ bool miss_chance_draft(const uint32_t *model, size_t model_words, uint64_t round
 bool miss_chance_read_model(const uint32_t *model, size_t model_words, uint64_t *answer, size_t answer_words);
 
 /*
- * Asks whether a zone, a list of bound words over `clocks` clocks (document 01's C), is empty at every scale, and for its earliest point if it is
- * not (document 02, card 6): the valuation at scale C + 1, whose clocks count (C + 1)-ths of a time unit, in which every clock is as small as any
- * valuation of the zone at that scale has it. `answer` has MISS_CHANCE_POINT_WORDS, six:
- *
- *   word 0   word 1   word 2    word 3    word 4    word 5
- *   0        1        0         0         0         0          the zone is empty
- *   0        0        clock 1   clock 2   clock 3   clock 4    it is not; what each clock reads at its earliest point, 0 for clocks above C
- *   31, 32   place    0         0         0         0          refused
- *
- * zone.c beside this file is a whole example.
+ * Asks whether a zone, a list of bound words over `clocks` clocks (document 01's C), is empty at every scale. Acceptance: 0, then 1 if it is
+ * empty or 0 if not, then zeros. Refusals: 31, 32.
  */
 bool miss_chance_zone_empty(uint32_t clocks, const uint32_t *zone, size_t zone_words, uint64_t *answer, size_t answer_words);
 

@@ -6,7 +6,7 @@ use std::fmt::{self, Debug};
 use crate::drafting::{self, DraftTally};
 use crate::flawed::{flawed_judge, Flaw};
 use crate::histories::{self, Asks, Board, BoardTally, Submission};
-use crate::reading::{words, Certificate, Counts, Point, Refusal, Slot};
+use crate::reading::{words, Certificate, Counts, Refusal, Slot};
 use crate::sides::{Plain, Reading, Side};
 use crate::spell;
 
@@ -153,12 +153,10 @@ impl<'a> Comparer<'a> {
         self.call("read_model", ask, &input, |_| Answer::Accepted)
     }
 
-    /// The earliest point, compared number by number, or none.
-    pub fn zone_empty(&mut self, clocks: u32, zone: &[u32]) -> Same<Option<Point>> {
+    pub fn zone_empty(&mut self, clocks: u32, zone: &[u32]) -> Same<bool> {
         let ask = |side: &dyn Side| side.zone_empty(clocks, zone);
         let input = [("clocks", &[clocks][..]), ("zone", zone)];
-        let empty = |point: &Option<Point>| Answer::to_question(&point.is_none());
-        self.call("zone_empty", ask, &input, empty)
+        self.call("zone_empty", ask, &input, Answer::to_question)
     }
 
     pub fn zone_inside(&mut self, clocks: u32, first: &[u32], second: &[u32]) -> Same<bool> {

@@ -3,13 +3,10 @@
 use std::collections::BTreeMap;
 
 use crate::comparer::{written, Fault};
-use crate::earliest::EarliestEvidence;
 use crate::player::{grid_of, node_claims, object, start_claim, Claim, Miss, Player};
 use crate::points::{all_hold, largest, largest_of_model, Grid};
 use crate::reading::words::bound;
-use crate::reading::{
-    parse_model, parse_table, Bound, Certificate, Model, Node, Point, Refusal, Table,
-};
+use crate::reading::{parse_model, parse_table, Bound, Certificate, Model, Node, Refusal, Table};
 use crate::sums::{sums, Sum};
 use crate::witness::{all_quests, quest_of, Quest, Witness};
 
@@ -58,11 +55,9 @@ pub struct Evidence {
     pub witnesses_left_out: BTreeMap<u32, usize>,
     /// By scale: witnesses first found there.
     pub first_scales: BTreeMap<i64, usize>,
-    /// Whether one zone lies inside another, answered by enumeration.
+    /// Zone questions answered by enumeration.
     pub zones: usize,
     pub zones_left_out: usize,
-    /// Whether a zone is empty.
-    pub earliest: EarliestEvidence,
 }
 
 impl Evidence {
@@ -251,41 +246,34 @@ impl Evidence {
         }
     }
 
-    /// Whether a zone is empty, and its earliest point if it is not, by valuations.
-    pub fn of_emptiness(
-        &mut self,
-        clocks: u32,
-        words: &[u32],
-        answer: Option<&Point>,
-    ) -> Result<(), Fault> {
-        let count = clocks as usize;
-        let zone = bounds_of(count, words);
-        let held = self.earliest.of_answer(count, &zone, answer);
-        held.map_err(|what| {
-            let input = written(&[("clocks", &[clocks]), ("zone", words)]);
-            Fault(format!("{what}\n{input}"))
-        })
-    }
-
-    /// Whether a zone lies inside another, by enumeration.
-    pub fn of_inside(
+    /// Whether a zone is empty, or inside the second if one is given, by enumeration.
+    pub fn of_question(
         &mut self,
         clocks: u32,
         first: &[u32],
-        second: &[u32],
+        second: Option<&[u32]>,
         answer: bool,
     ) -> Result<(), Fault> {
         let count = clocks as usize;
-        let [zone, other] = [first, second].map(|words| bounds_of(count, words));
-        let constant = largest(zone.iter().chain(&other));
+        let zone = bounds_of(count, first);
+        let other = second.map(|words| bounds_of(count, words));
+        let constant = largest(zone.iter().chain(other.iter().flatten()));
         let grid = Grid::new(count, count as i64 + 1, constant);
         if grid.size(&zone) > MOST_TRIES / 4 {
             self.zones_left_out += 1;
             return Ok(());
         }
-        let found = grid.find(&zone, &mut |clocks| !all_hold(&other, grid.scale, clocks));
+        let found = grid.find(&zone, &mut |clocks| {
+            other
+                .as_ref()
+                .is_none_or(|other| !all_hold(other, grid.scale, clocks))
+        });
         if found.is_none() != answer {
-            let input = written(&[("clocks", &[clocks]), ("first", first), ("second", second)]);
+            let input = written(&[
+                ("clocks", &[clocks]),
+                ("first", first),
+                ("second", second.unwrap_or(&[])),
+            ]);
             return Err(Fault(format!(
                 "answered {answer}, but found {found:?}\n{input}"
             )));

@@ -14,7 +14,7 @@ use crate::landings::change_landing;
 use crate::models::{self, Size};
 use crate::mutate::mutate;
 use crate::program_inputs;
-use crate::questions::{chained_zone, question, Question};
+use crate::questions::{question, Question};
 use crate::random::Random;
 use crate::reading::{parse_model, Model};
 use crate::sides::Side;
@@ -28,8 +28,6 @@ pub struct Work {
     /// Random models for the exhaustive player.
     pub played: usize,
     pub questions: usize,
-    /// Zones whose earliest point is asked, besides the directed ones.
-    pub zones: usize,
     pub garbage: usize,
     /// Rounds over the directed cases.
     pub boundaries: usize,
@@ -47,7 +45,6 @@ impl Work {
         models: 8000,
         played: 3000,
         questions: 40_000,
-        zones: 40_000,
         garbage: 20_000,
         boundaries: 2,
         programs: 5000,
@@ -61,12 +58,11 @@ impl Work {
         },
     };
 
-    /// Enough to catch every wrong judge, board, draft and earliest point of `wrong`.
+    /// Enough to catch every wrong judge, board and draft of `wrong`.
     pub const SHORT: Work = Work {
         models: 400,
         played: 0,
         questions: 2000,
-        zones: 2000,
         garbage: 500,
         boundaries: 1,
         programs: 300,
@@ -85,10 +81,9 @@ pub struct Run<'a> {
     pub comparer: Comparer<'a>,
     pub evidence: Evidence,
     random: Random,
-    /// What boards are drawn with, drafts, and zones for their earliest point.
+    /// What boards are drawn with, and drafts.
     random_boards: Random,
     random_drafts: Random,
-    random_zones: Random,
 }
 
 impl<'a> Run<'a> {
@@ -99,7 +94,6 @@ impl<'a> Run<'a> {
             random: Random::new(seed),
             random_boards: Random::new(seed + 1),
             random_drafts: Random::new(seed + 2),
-            random_zones: Random::new(seed + 3),
         }
     }
 
@@ -130,8 +124,7 @@ impl<'a> Run<'a> {
         }
         self.program_runs(work.programs)?;
         self.boards(work)?;
-        self.drafts(work)?;
-        self.earliest(work)
+        self.drafts(work)
     }
 
     /// Histories of submissions, and boards that are handed in.
@@ -145,28 +138,13 @@ impl<'a> Run<'a> {
         drafting::compare(&mut self.comparer, &mut self.evidence, random, work.drafts)
     }
 
-    /// Zones for their earliest point, at the limits and drawn.
-    pub fn earliest(&mut self, work: &Work) -> Result<(), Fault> {
-        for zone in boundaries::zones() {
-            self.emptiness(zone.clocks, &zone.words)?;
-        }
-        for _ in 0..work.zones {
-            let zone = chained_zone(&mut self.random_zones);
-            self.emptiness(zone.clocks, &zone.words)?;
-        }
-        Ok(())
-    }
-
-    /// Document 01's own cases, and those of cards 1 and 4 to 6.
+    /// Document 01's own cases, and those of cards 1, 4 and 5.
     fn worked_cases(&mut self) -> Result<(), Fault> {
         worked::check(self.comparer.under_test)?;
         worked::check(self.comparer.plain)?;
         for case in worked::all() {
             self.model(&case.model)?;
             self.played_pair(&case.model, &case.table)?;
-        }
-        for worked in worked::points() {
-            self.emptiness(worked.clocks, &worked.words)?;
         }
         Ok(())
     }
@@ -247,19 +225,14 @@ impl<'a> Run<'a> {
     /// Both questions; the answers are tried out valuation by valuation.
     fn question(&mut self, question: &Question) -> Result<(), Fault> {
         let (clocks, first, second) = (question.clocks, &question.first, &question.second);
-        self.emptiness(clocks, first)?;
+        if let Ok(answer) = self.comparer.zone_empty(clocks, first)? {
+            self.evidence.of_question(clocks, first, None, answer)?;
+        }
         if let Ok(answer) = self.comparer.zone_inside(clocks, first, second)? {
-            self.evidence.of_inside(clocks, first, second, answer)?;
+            self.evidence
+                .of_question(clocks, first, Some(second), answer)?;
         }
         Ok(())
-    }
-
-    /// Whether a zone is empty; the point is held against valuations.
-    fn emptiness(&mut self, clocks: u32, zone: &[u32]) -> Result<(), Fault> {
-        match self.comparer.zone_empty(clocks, zone)? {
-            Ok(point) => self.evidence.of_emptiness(clocks, zone, point.as_ref()),
-            Err(_) => Ok(()),
-        }
     }
 
     fn garbage(&mut self) -> Result<(), Fault> {

@@ -13,12 +13,6 @@ pub struct Question {
     pub second: Vec<u32>,
 }
 
-/// C and the words of one zone.
-pub struct ZoneWords {
-    pub clocks: u32,
-    pub words: Vec<u32>,
-}
-
 /// C mostly 1 to 4, constants mostly small; one question in six has a bad number or word.
 pub fn question(random: &mut Random) -> Question {
     let clocks = random.pick(&[1, 2, 2, 3, 3, 4]);
@@ -39,81 +33,6 @@ pub fn question(random: &mut Random) -> Question {
         spoil(random, &mut question);
     }
     question
-}
-
-/// A zone for its earliest point: a chain of strict bounds, other bounds, bounds that come again, in any
-/// order. C is 1 to 4, and constants are small or as large as they can be; one zone in twelve has a bad
-/// number or word.
-pub fn chained_zone(random: &mut Random) -> ZoneWords {
-    let clocks = random.pick(&[1, 2, 2, 3, 3, 4, 4]);
-    let constant = random.pick(&[0, 0, 1, 1, 2, 3, 4095]);
-    let strict = random.pick(&[1, 1, 1, 2, 4]);
-    let mut bounds = chain(random, clocks, constant, strict);
-    for _ in 0..random.pick(&[0, 0, 0, 1]) {
-        bounds.push(any_bound(random, clocks, constant, strict));
-    }
-    for _ in 0..random.pick(&[0, 0, 1, 2]) {
-        if !bounds.is_empty() {
-            let again = random.pick(&bounds);
-            let d = (again.d + random.between(0, 1)).min(4095);
-            bounds.push(Bound { d, ..again });
-        }
-    }
-    random.shuffle(&mut bounds);
-    let mut zone = ZoneWords {
-        clocks: clocks as u32,
-        words: spell::bounds(&bounds),
-    };
-    match random.below(36) {
-        0 => zone.clocks = random.pick(&[0, 1, 2, 3, 5, 6, 257]),
-        1 | 2 => spoil_list(random, &mut zone.words),
-        _ => {}
-    }
-    zone
-}
-
-/// The clocks in some order, each a step or more above the one before it, or, one in six, at most a step below
-/// it; some are near it from above as well. The last one mostly has an upper bound, as low as the steps
-/// add up to or a time unit or two higher.
-fn chain(random: &mut Random, clocks: usize, constant: i32, strict: usize) -> Vec<Bound> {
-    let mut order: Vec<usize> = (1..=clocks).collect();
-    random.shuffle(&mut order);
-    let mut bounds = Vec::new();
-    let (mut before, mut sum) = (0, 0);
-    for clock in order {
-        let size = match random.one_in(3) {
-            true => constant,
-            false => random.between(0, constant),
-        };
-        let step = size * random.pick(&[1, 1, 1, 1, 1, -1]);
-        bounds.push(Bound {
-            i: before,
-            j: clock,
-            d: -step,
-            strict: random.one_in(strict),
-        });
-        if random.one_in(5) {
-            bounds.push(Bound {
-                i: clock,
-                j: before,
-                d: (step + random.pick(&[0, 1, 1, 2])).min(4095),
-                strict: random.one_in(strict),
-            });
-        }
-        if !random.one_in(6) {
-            (before, sum) = (clock, sum + step);
-        }
-    }
-    if before > 0 && !random.one_in(3) {
-        let d = sum + random.pick(&[0, 1, 1, 1, 1, 2]);
-        bounds.push(Bound {
-            i: before,
-            j: 0,
-            d: d.clamp(-4095, 4095),
-            strict: random.one_in(2),
-        });
-    }
-    bounds
 }
 
 /// Up to two bounds per clock, more upper ones than lower ones.

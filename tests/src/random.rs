@@ -38,13 +38,6 @@ impl Random {
     pub fn pick<T: Copy>(&mut self, items: &[T]) -> T {
         items[self.below(items.len())]
     }
-
-    /// Puts the items into some order.
-    pub fn shuffle<T>(&mut self, items: &mut [T]) {
-        for at in 1..items.len() {
-            items.swap(at, self.below(at + 1));
-        }
-    }
 }
 
 #[cfg(test)]

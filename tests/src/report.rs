@@ -5,7 +5,6 @@ use std::fmt::{Display, Write};
 
 use crate::comparer::{Answer, Tally, PLAIN, UNDER_TEST};
 use crate::drafting::DraftTally;
-use crate::earliest::EarliestEvidence;
 use crate::evidence::Evidence;
 use crate::histories::BoardTally;
 
@@ -123,7 +122,7 @@ pub fn evidence(evidence: &Evidence, tally: &Tally) -> String {
             evidence.too_large_by_values
         ),
         format!(
-            "whether one zone lies inside another, answered by trying valuations: {}, left out as too large: {}",
+            "zone questions answered by trying valuations: {}, left out as too large: {}",
             evidence.zones, evidence.zones_left_out
         ),
     ];
@@ -131,25 +130,6 @@ pub fn evidence(evidence: &Evidence, tally: &Tally) -> String {
         .concat()
         .join("\n")
         + "\n"
-}
-
-/// What the earliest points came to.
-pub fn earliest(evidence: &EarliestEvidence) -> String {
-    let lines = [
-        format!(
-            "earliest points held against the valuations right below them: {}, the largest number {}",
-            evidence.lowered, evidence.largest
-        ),
-        format!(
-            "of these against all valuations at scale C + 1: {}, not the lower bounds of the tightened table {}, with no valuation at scales 1 to C, by C {}; empty zones tried at scales 1 to 6: {}; left out as too large: {}",
-            evidence.tried,
-            evidence.above_lower_bounds,
-            listed(&evidence.full_scale),
-            evidence.empty,
-            evidence.left_out
-        ),
-    ];
-    lines.join("\n") + "\n"
 }
 
 /// What the player came to.
@@ -258,8 +238,6 @@ pub fn lacks(tally: &Tally, evidence: &Evidence) -> Vec<String> {
     let boards = due_of_boards(tally).map(|(count, least, what)| (count, least, what.to_string()));
     let drafts =
         due_of_drafts(&tally.drafts).map(|(count, least, what)| (count, least, what.to_string()));
-    let earliest = due_of_earliest(&evidence.earliest)
-        .map(|(count, least, what)| (count, least, what.to_string()));
     let all = refused
         .into_iter()
         .chain(answered)
@@ -268,8 +246,7 @@ pub fn lacks(tally: &Tally, evidence: &Evidence) -> Vec<String> {
         .chain(tried)
         .chain(changed)
         .chain(boards)
-        .chain(drafts)
-        .chain(earliest);
+        .chain(drafts);
     let short = all.filter(|(count, least, _)| count < least);
     short
         .map(|(count, least, what)| format!("{what}: {count} where {least} are due"))
@@ -322,7 +299,7 @@ fn due_of_evidence(evidence: &Evidence) -> [(usize, usize, &'static str); 10] {
             "bounds with a landing outside found to be tight",
         ),
         (evidence.fruitless, 1000, "accepted rows searched"),
-        (evidence.zones, 1000, "insides tried out"),
+        (evidence.zones, 1000, "zone questions tried out"),
     ]
 }
 
@@ -381,30 +358,6 @@ fn due_of_drafts(tally: &DraftTally) -> [(usize, usize, &'static str); 17] {
     ]
 }
 
-/// What the earliest points must have met, and how often at least.
-fn due_of_earliest(evidence: &EarliestEvidence) -> [(usize, usize, &'static str); 9] {
-    let full_scale = |clocks| evidence.full_scale.get(&clocks).copied().unwrap_or(0);
-    [
-        (evidence.lowered, 20_000, "earliest points"),
-        (evidence.tried, 10_000, "earliest points tried out"),
-        (
-            evidence.above_lower_bounds,
-            1000,
-            "earliest points above the lower bounds",
-        ),
-        (full_scale(1), 100, "points that need scale 2"),
-        (full_scale(2), 100, "points that need scale 3"),
-        (full_scale(3), 100, "points that need scale 4"),
-        (full_scale(4), 100, "points that need scale 5"),
-        (evidence.empty, 1000, "empty zones tried out"),
-        (
-            evidence.largest as usize,
-            4 * (5 * 4095 + 1),
-            "parts of a time unit at the most",
-        ),
-    ]
-}
-
 #[cfg(test)]
 mod tests {
     use super::*;
@@ -413,6 +366,6 @@ mod tests {
     fn an_idle_run_lacks_everything() {
         let lacks = lacks(&Tally::default(), &Evidence::default());
         let lists = REFUSALS.len() + ANSWERS.len() + CHANGES.len();
-        assert_eq!(lacks.len(), lists + 5 + 4 + 10 + 13 + 17 + 9);
+        assert_eq!(lacks.len(), lists + 5 + 4 + 10 + 13 + 17);
     }
 }

@@ -7,13 +7,11 @@ use crate::evidence::Evidence;
 use crate::flawed::{flawed_judge, Flaw};
 use crate::flawed_board::BoardFlaw;
 use crate::flawed_draft::DraftFlaw;
-use crate::flawed_point::PointFlaw;
 use crate::histories;
 use crate::plan::{small_pairs, Run, Work};
 use crate::player::Miss;
-use crate::questions::chained_zone;
 use crate::random::Random;
-use crate::reading::{Certificate, Point, Refusal};
+use crate::reading::{Certificate, Refusal};
 use crate::worked::{cases, cuts, landing_model, landings, CUT_TABLE, MODEL, TABLE};
 use crate::wrong::{self, Wrong};
 
@@ -54,18 +52,6 @@ pub fn wrong_drafts() -> Result<Vec<(String, usize)>, Fault> {
 pub fn wrong_plain_drafts() -> Result<Vec<(String, usize)>, Fault> {
     let caught = |wrong: &Wrong| caught_as_plain(wrong, |run| run.drafts(&Work::SHORT));
     wrong::drafts().iter().map(caught).collect()
-}
-
-/// The same with everything that is wrong in earliest points, and with zones alone.
-pub fn wrong_points() -> Result<Vec<(String, usize)>, Fault> {
-    let caught = |wrong: &Wrong| caught(wrong, |run| run.earliest(&Work::SHORT));
-    wrong::points().iter().map(caught).collect()
-}
-
-/// And with all of that in the place of the plain judge's.
-pub fn wrong_plain_points() -> Result<Vec<(String, usize)>, Fault> {
-    let caught = |wrong: &Wrong| caught_as_plain(wrong, |run| run.earliest(&Work::SHORT));
-    wrong::points().iter().map(caught).collect()
 }
 
 fn caught(wrong: &Wrong, part: Part) -> Result<(String, usize), Fault> {
@@ -146,31 +132,6 @@ const NOT_BY_THE_CARD_ALONE: [DraftFlaw; 18] = [
     DraftFlaw::KeepsVAtEmptyNodes,
     DraftFlaw::TakesVForTheWholeRow,
 ];
-
-/// Holds each flawed point against valuations, without any comparison: its name and the zones before one
-/// was objected to.
-pub fn point_flaws_against_valuations() -> Result<Vec<(String, usize)>, Fault> {
-    let objected = |flaw| {
-        let before = point_objected(flaw, 5000);
-        let before = before.ok_or(Fault(format!("no valuation objects to {flaw:?}")))?;
-        Ok((format!("{flaw:?}"), before))
-    };
-    PointFlaw::ALL.into_iter().map(objected).collect()
-}
-
-/// How many drawn zones of so many were answered before one answer was objected to, if any.
-fn point_objected(flaw: PointFlaw, zones: usize) -> Option<usize> {
-    let mut random = Random::new(6);
-    let mut evidence = Evidence::default();
-    (0..zones).find(|_| {
-        let zone = chained_zone(&mut random);
-        let answer = flaw.zone_empty(zone.clocks, &zone.words);
-        answer.is_ok_and(|point| {
-            let held = evidence.of_emptiness(zone.clocks, &zone.words, point.as_ref());
-            held.is_err()
-        })
-    })
-}
 
 /// Something false that was told, and what came of it.
 type Told = (&'static str, Result<(), Fault>);
@@ -298,45 +259,20 @@ fn of_landings(evidence: &mut Evidence) -> Result<Vec<Told>, Fault> {
     Ok(told)
 }
 
-/// Of the two questions: above 2 and below 3 is 5 halves.
+/// Of the two questions.
 fn of_zones(evidence: &mut Evidence) -> Vec<Told> {
     let (above_2, at_most_3, below_3) = (0x50180FFE, 0x51001003, 0x51081003);
-    let point = |scale, reading| Point {
-        scale,
-        clocks: [reading, 0, 0, 0],
+    let mut question = |first: &[u32], second: Option<&[u32]>, answer| {
+        evidence.of_question(1, first, second, answer)
     };
-    let second = Point {
-        scale: 2,
-        clocks: [5, 1, 0, 0],
-    };
-    let mut told = vec![
-        (
-            "inside",
-            evidence.of_inside(1, &[at_most_3], &[below_3], true),
-        ),
+    vec![
+        ("empty", question(&[above_2, below_3], None, true)),
+        ("inside", question(&[at_most_3], Some(&[below_3]), true)),
         (
             "not inside",
-            evidence.of_inside(1, &[below_3], &[at_most_3], false),
+            question(&[below_3], Some(&[at_most_3]), false),
         ),
-    ];
-    let mut empty =
-        |words: &[u32], answer: Option<Point>| evidence.of_emptiness(1, words, answer.as_ref());
-    told.extend([
-        ("empty", empty(&[above_2, below_3], None)),
-        ("2", empty(&[above_2, below_3], Some(point(2, 4)))),
-        ("3", empty(&[above_2, below_3], Some(point(2, 6)))),
-        ("3, later", empty(&[above_2, at_most_3], Some(point(2, 6)))),
-        (
-            "the scale",
-            empty(&[above_2, below_3], Some(point(5, 2 * 5 + 1))),
-        ),
-        ("a clock more", empty(&[above_2, below_3], Some(second))),
-        (
-            "a point of nothing",
-            empty(&[above_2, 0x51001002], Some(point(2, 4))),
-        ),
-    ]);
-    told
+    ]
 }
 
 /// Gives the player and the search for witnesses the answers of each flawed judge, without any
@@ -467,47 +403,6 @@ mod tests {
     }
 
     #[test]
-    fn every_wrong_point_is_caught() {
-        let caught = wrong_points();
-        assert!(caught.is_ok(), "{caught:?}");
-    }
-
-    #[test]
-    fn so_is_every_wrong_point_of_the_plain_judge() {
-        let caught = wrong_plain_points();
-        assert!(caught.is_ok(), "{caught:?}");
-    }
-
-    #[test]
-    fn valuations_object_to_flawed_points() {
-        let objected = point_flaws_against_valuations();
-        assert!(objected.is_ok(), "{objected:?}");
-    }
-
-    /// Otherwise flaws would be caught for what they share.
-    #[test]
-    fn a_flawed_point_without_its_flaw_is_right() {
-        let side = wrong::flawed_point(PointFlaw::None);
-        let found = Run::new(&side, 3).earliest(&Work::SHORT);
-        assert!(found.is_ok(), "{found:?}");
-        assert_eq!(point_objected(PointFlaw::None, 5000), None);
-    }
-
-    /// The worked zones alone, whose points were written by hand, tell every flaw of the list.
-    #[test]
-    fn worked_zones_catch_flaws_of_points() {
-        let passes = |flaw: &PointFlaw| {
-            worked::points().iter().all(|worked| {
-                let answer = flaw.zone_empty(worked.clocks, &worked.words);
-                answer == Ok(worked.point)
-            })
-        };
-        let passed: Vec<PointFlaw> = PointFlaw::ALL.into_iter().filter(passes).collect();
-        assert_eq!(passed, [PointFlaw::None; 0]);
-        assert!(passes(&PointFlaw::None));
-    }
-
-    #[test]
     fn the_right_one_passes() {
         let side = wrong::right("right");
         let found = Run::new(&side, 3).all(&Work::SHORT);
@@ -522,7 +417,7 @@ mod tests {
 
     #[test]
     fn false_claims_are_objected_to() {
-        assert_eq!(false_claims().ok(), Some(74));
+        assert_eq!(false_claims().ok(), Some(68));
     }
 
     #[test]

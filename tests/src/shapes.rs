@@ -4,7 +4,7 @@ use std::hint::black_box;
 
 use crate::kept::{Kept, Submission};
 use crate::random::Random;
-use crate::reading::{Bound, Certificate, Counts, Point, Refusal, Slot};
+use crate::reading::{Bound, Certificate, Counts, Refusal, Slot};
 use crate::sides::Side;
 use crate::{spell, worked};
 
@@ -28,7 +28,6 @@ pub enum Shape {
     LongestFile,
     LongTable(usize),
     LongModel(usize),
-    ChainedZone,
     LongZone(usize),
     LongZones(usize),
     Submit { held: bool },
@@ -45,7 +44,7 @@ pub fn all() -> Vec<Shape> {
     }
     shapes.extend([1, 4].map(|clocks| Shape::Cuts { clocks }));
     shapes.extend([1, 4].map(|clocks| Shape::Outside { clocks }));
-    shapes.extend([Shape::LongestFile, Shape::ChainedZone]);
+    shapes.push(Shape::LongestFile);
     for words in [10_000, 100_000, 1_000_000] {
         shapes.extend([
             Shape::LongTable(words),
@@ -87,7 +86,6 @@ impl Shape {
             Shape::LongestFile => "judge, longest file",
             Shape::LongTable(_) => "judge, long run of bounds",
             Shape::LongModel(_) => "read a model",
-            Shape::ChainedZone => "is a zone empty, four clocks in a strict chain",
             Shape::LongZone(_) => "is a zone empty",
             Shape::LongZones(_) => "one zone inside another",
             Shape::Submit { held: false } => "submit, worked case, fresh board",
@@ -113,7 +111,6 @@ impl Shape {
             Shape::LongestFile => Shape::LongTable(LONGEST - worked::MODEL.len()).input(),
             Shape::LongTable(words) => Input::Judging(worked::MODEL.to_vec(), long_table(words)),
             Shape::LongModel(words) => Input::Model(long_model(words)),
-            Shape::ChainedZone => Input::Zone(chained_zone()),
             Shape::LongZone(words) => Input::Zone(bounds(1, words)),
             Shape::LongZones(words) => Input::Zones(bounds(1, words / 2), bounds(2, words / 2)),
             Shape::Submit { held } => Input::Submission(board(held), worked_submission()),
@@ -151,8 +148,7 @@ pub enum Input {
 pub enum Answer {
     Judged(Result<Certificate, Refusal>),
     Read(Result<Counts, Refusal>),
-    Earliest(Result<Option<Point>, Refusal>),
-    Inside(Result<bool, Refusal>),
+    Asked(Result<bool, Refusal>),
     Ranked,
     Drafted(Result<usize, Refusal>),
 }
@@ -162,8 +158,7 @@ impl Answer {
         match self {
             Answer::Judged(answer) => answer.is_err(),
             Answer::Read(answer) => answer.is_err(),
-            Answer::Earliest(answer) => answer.is_err(),
-            Answer::Inside(answer) => answer.is_err(),
+            Answer::Asked(answer) => answer.is_err(),
             Answer::Ranked => false,
             Answer::Drafted(answer) => answer.is_err(),
         }
@@ -225,8 +220,8 @@ impl Input {
         match black_box(self) {
             Input::Judging(model, table) => Answer::Judged(side.judge(model, table)),
             Input::Model(words) => Answer::Read(side.read_model(words)),
-            Input::Zone(words) => Answer::Earliest(side.zone_empty(4, words)),
-            Input::Zones(first, second) => Answer::Inside(side.zone_inside(4, first, second)),
+            Input::Zone(words) => Answer::Asked(side.zone_empty(4, words)),
+            Input::Zones(first, second) => Answer::Asked(side.zone_inside(4, first, second)),
             Input::Submission(_, submission) => Answer::Judged(board.submit(submission)),
             Input::Rank(_) => {
                 board.rank();
@@ -279,24 +274,6 @@ fn worked_submission() -> Submission {
         slot: 4,
         model: worked::MODEL.to_vec(),
         table: worked::TABLE.to_vec(),
-    }
-}
-
-/// Each clock above the one before it, clock 4 below 1: all clocks are raised, and only fifths will do. The
-/// words stand in the order that raises one clock at a time.
-fn chained_zone() -> Vec<u32> {
-    let above = |clock: usize| spell::bound(&below(clock - 1, clock, 0));
-    let mut words = vec![spell::bound(&below(4, 0, 1))];
-    words.extend((1..=4).rev().map(above));
-    words
-}
-
-fn below(i: usize, j: usize, d: i32) -> Bound {
-    Bound {
-        i,
-        j,
-        d,
-        strict: true,
     }
 }
 

@@ -8,16 +8,15 @@ use std::time::Duration;
 
 use crate::drafting::LONGEST;
 use crate::plain;
-use crate::reading::{self, Certificate, Counts, Point, Refusal, Slot};
+use crate::reading::{self, Certificate, Counts, Refusal, Slot};
 use crate::spell;
 
-/// The four calls and the program, with the answers of document 01 and of document 02, card 6, the two
-/// calls of its card 3, and the one of its card 5 with the program around it.
+/// The four calls and the program, with the answers of document 01, the two calls of document 02,
+/// card 3, and the one of its card 5 with the program around it.
 pub trait Side {
     fn judge(&self, model: &[u32], table: &[u32]) -> Result<Certificate, Refusal>;
     fn read_model(&self, words: &[u32]) -> Result<Counts, Refusal>;
-    /// The earliest point of a zone, or none where it is empty (document 02, card 6).
-    fn zone_empty(&self, clocks: u32, words: &[u32]) -> Result<Option<Point>, Refusal>;
+    fn zone_empty(&self, clocks: u32, words: &[u32]) -> Result<bool, Refusal>;
     fn zone_inside(&self, clocks: u32, first: &[u32], second: &[u32]) -> Result<bool, Refusal>;
     /// What is printed for these bytes on standard input.
     fn program(&self, bytes: &[u8]) -> String;
@@ -65,7 +64,7 @@ impl Side for Reading {
         reading::read_model(words)
     }
 
-    fn zone_empty(&self, clocks: u32, words: &[u32]) -> Result<Option<Point>, Refusal> {
+    fn zone_empty(&self, clocks: u32, words: &[u32]) -> Result<bool, Refusal> {
         reading::zone_empty(clocks, words)
     }
 
@@ -115,10 +114,8 @@ impl Side for Plain {
         })
     }
 
-    fn zone_empty(&self, clocks: u32, words: &[u32]) -> Result<Option<Point>, Refusal> {
-        let readings = plain::zone_empty(clocks, words).map_err(plainly_refused)?;
-        let scale = clocks + 1;
-        Ok(readings.map(|clocks| Point { scale, clocks }))
+    fn zone_empty(&self, clocks: u32, words: &[u32]) -> Result<bool, Refusal> {
+        plain::zone_empty(clocks, words).map_err(plainly_refused)
     }
 
     fn zone_inside(&self, clocks: u32, first: &[u32], second: &[u32]) -> Result<bool, Refusal> {
@@ -240,10 +237,9 @@ impl Side for UnderTest {
         })
     }
 
-    fn zone_empty(&self, clocks: u32, words: &[u32]) -> Result<Option<Point>, Refusal> {
+    fn zone_empty(&self, clocks: u32, words: &[u32]) -> Result<bool, Refusal> {
         let answer = miss_chance::zone_empty(clocks, words);
-        let point = answer.result().map_err(refused)?;
-        Ok(point.map(|point| answered_point(clocks, &point)))
+        answer.result().map_err(refused)
     }
 
     fn zone_inside(&self, clocks: u32, first: &[u32], second: &[u32]) -> Result<bool, Refusal> {
@@ -336,17 +332,6 @@ pub fn judged(verdict: miss_chance::Verdict) -> Result<Certificate, Refusal> {
         whole: accepted.whole,
         nodes: accepted.nodes,
     })
-}
-
-/// A point over so many clocks, for each of which the package has one number.
-fn answered_point(clocks: u32, point: &miss_chance::Point) -> Point {
-    let numbers = point.clocks();
-    assert_eq!(numbers.len(), clocks as usize, "numbers of a point");
-    let read = |clock| numbers.get(clock).copied().unwrap_or(0);
-    Point {
-        scale: point.scale(),
-        clocks: std::array::from_fn(read),
-    }
 }
 
 /// Writes long inputs in two parts, as a slow pipe would bring them. The program need not read what

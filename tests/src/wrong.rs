@@ -1,15 +1,14 @@
-//! Judges, boards, drafts and earliest points that are wrong on purpose. Tests that let one of them pass would be worth nothing.
+//! Judges, boards and drafts that are wrong on purpose. Tests that let one of them pass would be worth nothing.
 
 use crate::flawed::{flawed_judge, Flaw};
 use crate::flawed_board::{BoardFlaw, Request};
 use crate::flawed_draft::DraftFlaw;
-use crate::flawed_point::PointFlaw;
-use crate::reading::{self, Certificate, Counts, Point, Refusal, Slot};
+use crate::reading::{self, Certificate, Counts, Refusal, Slot};
 use crate::sides::Side;
 
 type Judge = Box<dyn Fn(&[u32], &[u32]) -> Result<Certificate, Refusal>>;
 type ReadModel = Box<dyn Fn(&[u32]) -> Result<Counts, Refusal>>;
-type ZoneEmpty = Box<dyn Fn(u32, &[u32]) -> Result<Option<Point>, Refusal>>;
+type ZoneEmpty = Box<dyn Fn(u32, &[u32]) -> Result<bool, Refusal>>;
 type ZoneInside = Box<dyn Fn(u32, &[u32], &[u32]) -> Result<bool, Refusal>>;
 type Program = Box<dyn Fn(&[u8]) -> String>;
 type Submit =
@@ -39,7 +38,7 @@ impl Side for Wrong {
         (self.read_model)(words)
     }
 
-    fn zone_empty(&self, clocks: u32, words: &[u32]) -> Result<Option<Point>, Refusal> {
+    fn zone_empty(&self, clocks: u32, words: &[u32]) -> Result<bool, Refusal> {
         (self.zone_empty)(clocks, words)
     }
 
@@ -108,17 +107,6 @@ pub fn drafts() -> Vec<Wrong> {
     drafts.extend(numbers.map(misplaced_in_draft));
     drafts.extend([(58, 59), (59, 60), (58, 60)].map(exchanged_in_draft));
     drafts
-}
-
-/// All that are wrong in earliest points. The rest is right.
-pub fn points() -> Vec<Wrong> {
-    let mut points: Vec<Wrong> = PointFlaw::ALL.into_iter().map(flawed_point).collect();
-    points.extend([31, 32].map(misplaced_in_emptiness));
-    points.push(Wrong {
-        zone_empty: Box::new(|clocks, words| reading::zone_empty(clocks, words).map(|_| None)),
-        ..right("says that every zone is empty")
-    });
-    points
 }
 
 /// The reading itself, to be spoiled in one call.
@@ -212,23 +200,6 @@ fn exchanged_in_draft((one, other): (u32, u32)) -> Wrong {
     with_draft_refusals(format!("exchanges {one} and {other}"), move |refusal| {
         exchanged(refusal, one, other)
     })
-}
-
-pub fn flawed_point(flaw: PointFlaw) -> Wrong {
-    Wrong {
-        zone_empty: Box::new(move |clocks, words| flaw.zone_empty(clocks, words)),
-        ..right(&format!("{flaw:?}"))
-    }
-}
-
-fn misplaced_in_emptiness(number: u32) -> Wrong {
-    let empty = move |clocks, words: &[u32]| {
-        reading::zone_empty(clocks, words).map_err(|refusal| moved(refusal, number))
-    };
-    Wrong {
-        zone_empty: Box::new(empty),
-        ..right(&format!("misplaces {number}"))
-    }
 }
 
 fn wrong_judges() -> Vec<Wrong> {

@@ -82,7 +82,7 @@ pub use reason::Reason;
 pub use refusal::Refusal;
 pub use slots::{Ledger, Slot, SLOTS};
 pub use verdict::{Certificate, Verdict};
-pub use zone::{Emptiness, Inclusion, Point};
+pub use zone::{Emptiness, Inclusion};
 
 /// Judges a table against a model. The model's refusal, if any, comes first.
 pub fn judge(model: &[u32], table: &[u32]) -> Verdict {
@@ -140,27 +140,9 @@ pub fn read_model(model: &[u32]) -> ModelAnswer {
 }
 
 /// Asks whether a zone, a list of bound words over `clocks` clocks (document 01's C), is empty at
-/// every scale. If not, the answer has its earliest point, an example for a simulator.
-///
-/// ```
-/// use miss_chance::zone_empty;
-///
-/// let zone = [0x50181000, 0x51281000]; // 0 < x1 < x2
-/// let answer = zone_empty(2, &zone);
-/// assert_eq!(answer.to_string(), "NOT EMPTY 1 2");
-///
-/// let point = answer.result()?.expect("a zone that is not empty");
-/// assert_eq!((point.scale(), point.clocks()), (3, &[1, 2][..])); // x1 = 1/3, x2 = 2/3
-///
-/// assert_eq!(zone_empty(1, &[0x51000FFF]).result()?, None); // no clock is at most -1
-/// # Ok::<(), miss_chance::Refusal>(())
-/// ```
-///
-/// # Errors
-///
-/// 31 where `clocks` is not 1 to 4; 32 at the first word that is no good bound.
+/// every scale.
 pub fn zone_empty(clocks: u32, zone: &[u32]) -> Emptiness {
-    Emptiness::from_words(raw::zone_empty(clocks, zone), clocks)
+    Emptiness::from_words(raw::zone_empty(clocks, zone))
 }
 
 /// Asks whether the first zone lies inside the second at every scale.

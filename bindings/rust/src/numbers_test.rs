@@ -5,22 +5,16 @@ use std::fs::read_to_string;
 use std::panic::catch_unwind;
 
 use crate::raw::Ranked;
-use crate::words::{PointWords, Words, UNWRITTEN};
+use crate::words::Words;
 use crate::{
     DraftLength, Emptiness, Inclusion, ModelAnswer, RankAnswer, Reason, Refusal, Verdict,
     DRAFT_WORDS, SLOTS,
 };
 
 /// Of the numbers 1 to 99 those listed give a refusal with the same number, the others panic.
-fn check<A: Debug, const N: usize>(
-    read: fn([u64; N]) -> A,
-    refusal: fn(A) -> Option<Refusal>,
-    listed: &[u32],
-) {
+fn check<A: Debug>(read: fn(Words) -> A, refusal: fn(A) -> Option<Refusal>, listed: &[u32]) {
     for number in 1..100 {
-        let mut words = [0; N];
-        words[..2].copy_from_slice(&[number.into(), 7]);
-        match catch_unwind(|| read(words)) {
+        match catch_unwind(|| read([number.into(), 7, 0, 0])) {
             Ok(answer) => {
                 assert!(listed.contains(&number), "{answer:?}");
                 let refusal = refusal(answer).expect("a refusal");
@@ -53,79 +47,14 @@ fn numbers_of_each_answer() {
         ModelAnswer::refusal,
         &verdicts[..6],
     );
-    check(
-        |words| Emptiness::from_words(words, 1),
-        Emptiness::refusal,
-        &[31, 32],
-    );
+    check(Emptiness::from_words, Emptiness::refusal, &[31, 32]);
     check(Inclusion::from_words, Inclusion::refusal, &[31, 32, 33]);
 }
 
 #[test]
-fn points_over_each_number_of_clocks() {
-    const LARGEST: u64 = u32::MAX as u64;
-    for (words, clocks, line) in [
-        ([0, 0, 5, 0, 0, 0], 1, "NOT EMPTY 5"),
-        ([0, 0, 0, 7, 0, 0], 2, "NOT EMPTY 0 7"),
-        ([0, 0, 1, 0, 3, 0], 3, "NOT EMPTY 1 0 3"),
-        ([0, 0, 0, 0, 0, LARGEST], 4, "NOT EMPTY 0 0 0 4294967295"),
-    ] {
-        let answer = Emptiness::from_words(words, clocks);
-        assert_eq!(answer.to_string(), line);
-        let point = answer.point().expect("a point");
-        let reads: Vec<u64> = point.clocks().iter().map(|&read| read.into()).collect();
-        assert_eq!(reads, words[2..2 + clocks as usize]);
-        assert_eq!(point.scale(), clocks + 1);
-    }
-    let empty = Emptiness::from_words([0, 1, 0, 0, 0, 0], 4);
-    assert_eq!(empty, Emptiness::Empty);
-}
-
-/// Points that read alike are not the same over another number of clocks: their scales differ.
-#[test]
-fn points_at_two_scales() {
-    let origins = [1, 2].map(|clocks| Emptiness::from_words([0; 6], clocks));
-    assert_ne!(origins[0], origins[1]);
-}
-
-#[test]
-fn no_answers_about_a_zone() {
-    for (words, clocks) in [
-        ([0, 2, 0, 0, 0, 0], 1),       // neither yes nor no
-        ([0, 1, 1, 0, 0, 0], 1),       // a point of an empty zone
-        ([0, 1, 0, 0, 0, 1], 4),       // the same, in the last word
-        ([0, 0, 5, 1, 0, 0], 1),       // a clock above C
-        ([0, 0, 5, 1, 1, 1], 3),       // the same, in the last word
-        ([0, 0, 1 << 32, 0, 0, 0], 1), // a clock over 32 bits
-        ([0, 0, 0, 0, 0, 1 << 32], 3), // the same, above C
-        ([0, 0, 0, 0, 0, 0], 0),       // no clock
-        ([0, 0, 0, 0, 0, 0], 5),       // too many
-        ([0, 1, 0, 0, 0, 0], 0),       // the same of an empty zone
-        ([0, 1, 0, 0, 0, 0], 5),
-        ([0, 0, 0, 0, UNWRITTEN, UNWRITTEN], 4), // four words written
-        ([0, 1, 0, 0, UNWRITTEN, UNWRITTEN], 4), // the same
-        ([32, 1, 0, 0, UNWRITTEN, UNWRITTEN], 4), // the same of a refusal
-        ([32, 1, 9, 0, 0, 0], 4),                // a refusal with a word more
-    ] {
-        let message = catch_unwind(|| Emptiness::from_words(words, clocks))
-            .expect_err("a panic")
-            .downcast::<String>()
-            .expect("a message");
-        let expected = format!("broken link: libmiss_chance.a answered zone_empty with {words:?}");
-        assert!(message.starts_with(&expected), "{message}");
-    }
-}
-
-#[test]
-#[should_panic(expected = "broken link: libmiss_chance.a answered zone_inside with [0, 2, 0, 0]")]
-fn neither_inside_nor_not() {
-    let _ = Inclusion::from_words([0, 2, 0, 0]);
-}
-
-#[test]
-#[should_panic(expected = "libmiss_chance.a answered judge with [19, 4, 1, 0]")]
-fn a_refusal_with_a_word_more() {
-    let _ = Verdict::of_judge([19, 4, 1, 0]);
+#[should_panic(expected = "broken link: libmiss_chance.a answered zone_empty with [0, 2, 0, 0]")]
+fn neither_yes_nor_no() {
+    let _ = Emptiness::from_words([0, 2, 0, 0]);
 }
 
 #[test]
@@ -235,16 +164,10 @@ fn the_header_has_the_same_names() {
 }
 
 #[test]
-fn the_header_has_the_same_lengths() {
+fn the_header_has_the_same_longest_draft() {
     let header = text_of("bindings/c/miss_chance.h");
-    for (name, words) in [
-        ("ANSWER", size_of::<Words>() / 8),
-        ("POINT", size_of::<PointWords>() / 8),
-        ("DRAFT", DRAFT_WORDS),
-    ] {
-        let defined = format!("#define MISS_CHANCE_{name}_WORDS {words}");
-        assert!(header.lines().any(|line| line == defined), "{defined}");
-    }
+    let defined = format!("#define MISS_CHANCE_DRAFT_WORDS {DRAFT_WORDS}");
+    assert!(header.lines().any(|line| line == defined), "{defined}");
 }
 
 #[test]

@@ -1,7 +1,7 @@
-//! The library's calls: five write their answer to words that are lent, `zone_empty` to six and the
-//! others to four; the two of a board return theirs as a struct. All `unsafe` code is here.
+//! The library's calls: five write their answer to four words, the two of a board return theirs as
+//! a struct. All `unsafe` code is here.
 
-use crate::words::{PointWords, Words, UNWRITTEN};
+use crate::words::Words;
 use crate::{Ledger, Slot, SLOTS};
 
 /// Who submits, and for which slot.
@@ -144,8 +144,8 @@ pub(crate) fn read_model(model: &[u32]) -> Words {
     checked(written, answer)
 }
 
-pub(crate) fn zone_empty(clocks: u32, zone: &[u32]) -> PointWords {
-    let mut answer: PointWords = [UNWRITTEN; 6];
+pub(crate) fn zone_empty(clocks: u32, zone: &[u32]) -> Words {
+    let mut answer = [0; 4];
     // SAFETY: as in `judge`; `clocks` may be any number.
     let written = unsafe {
         miss_chance_zone_empty(
@@ -212,10 +212,10 @@ pub(crate) fn rank(slots: &[Slot]) -> Ranked {
     unsafe { miss_chance_rank(slots.as_ptr(), slots.len()) }
 }
 
-fn checked<const N: usize>(written: bool, answer: [u64; N]) -> [u64; N] {
+fn checked(written: bool, answer: Words) -> Words {
     assert!(
         written,
-        "broken link: libmiss_chance.a wrote no answer to {N} words"
+        "broken link: libmiss_chance.a wrote no answer to four words"
     );
     answer
 }

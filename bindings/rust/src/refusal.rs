@@ -3,7 +3,7 @@
 use std::error::Error;
 use std::fmt;
 
-use crate::words::{broken, value};
+use crate::words::{broken, value, Words};
 use crate::Reason;
 
 /// A refusal: why, and where. Document 01 has nothing else in it.
@@ -22,16 +22,15 @@ pub struct Refusal {
 
 impl Refusal {
     /// Takes words that are no acceptance; `numbers` are those that the call gives.
-    pub(crate) fn from_words<const N: usize>(
+    pub(crate) fn from_words(
         call: &str,
         mut numbers: impl Iterator<Item = u32>,
-        words: [u64; N],
+        words: Words,
     ) -> Refusal {
         let number = value(call, words, 0);
         let mut all = Reason::ALL.iter();
-        let bare = words[2..].iter().all(|&word| word == 0); // nothing else is in a refusal
         match all.find(|reason| reason.number() == number) {
-            Some(&reason) if bare && numbers.any(|given| given == number) => Refusal {
+            Some(&reason) if numbers.any(|given| given == number) => Refusal {
                 reason,
                 place: value(call, words, 1),
             },

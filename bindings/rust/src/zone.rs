@@ -2,82 +2,30 @@
 
 use std::fmt;
 
-use crate::words::{broken, value, PointWords, Words};
+use crate::words::{broken, Words};
 use crate::Refusal;
 
-/// The most clocks that a zone is over, so that a point has room for every C.
-const MOST_CLOCKS: usize = 4;
-
-/// The earliest point of a zone over clocks 1 to C: the valuation at scale C + 1 in which every
-/// clock is as small as any valuation of the zone at that scale has it. It prints as its C numbers,
-/// such as `1 2`.
-#[derive(Clone, Copy, Debug, PartialEq, Eq)]
-pub struct Point {
-    reads: [u32; MOST_CLOCKS], // zeros behind the first `clocks`, so that `==` compares no others
-    clocks: usize,
-}
-
-impl Point {
-    /// C + 1: the clocks count so many parts of a time unit.
-    #[must_use]
-    pub fn scale(&self) -> u32 {
-        self.clocks as u32 + 1
-    }
-
-    /// What clocks 1 to C read, in order.
-    #[must_use]
-    pub fn clocks(&self) -> &[u32] {
-        &self.reads[..self.clocks]
-    }
-
-    /// Takes the words of an answer that has a point, over so many clocks, at most four.
-    fn from_words(call: &str, words: PointWords, clocks: u32) -> Point {
-        let clocks = clocks as usize;
-        let reads = [2, 3, 4, 5].map(|index| value(call, words, index));
-        match reads[clocks..].iter().all(|&reads| reads == 0) {
-            true => Point { reads, clocks },
-            false => broken(call, words),
-        }
-    }
-}
-
-impl fmt::Display for Point {
-    fn fmt(&self, out: &mut fmt::Formatter<'_>) -> fmt::Result {
-        for (at, reads) in self.clocks().iter().enumerate() {
-            let between = if at == 0 { "" } else { " " };
-            write!(out, "{between}{reads}")?;
-        }
-        Ok(())
-    }
-}
-
-/// The answer of [`zone_empty`](crate::zone_empty). It prints as `EMPTY`, as `NOT EMPTY` with what
-/// the clocks read behind it, such as `NOT EMPTY 1 2`, or as `REFUSED number place`.
+/// The answer of [`zone_empty`](crate::zone_empty). It prints as `EMPTY`, `NOT EMPTY` or
+/// `REFUSED number place`.
 #[derive(Clone, Copy, Debug, PartialEq, Eq)]
 #[must_use = "the question may be refused"]
 pub enum Emptiness {
     /// No scale has a valuation in the zone.
     Empty,
-    /// Some scale has one, and so has scale C + 1: the zone's earliest point.
-    NotEmpty(Point),
+    /// Some scale has one.
+    NotEmpty,
     /// The question is refused, with 31 or 32.
     Refused(Refusal),
 }
 
 impl Emptiness {
-    /// The same as a `Result`: the zone's earliest point, or `None` where the zone is empty.
-    pub fn result(self) -> Result<Option<Point>, Refusal> {
+    /// The same as a `Result`: whether the zone is empty.
+    pub fn result(self) -> Result<bool, Refusal> {
         match self {
-            Emptiness::Empty => Ok(None),
-            Emptiness::NotEmpty(point) => Ok(Some(point)),
+            Emptiness::Empty => Ok(true),
+            Emptiness::NotEmpty => Ok(false),
             Emptiness::Refused(refusal) => Err(refusal),
         }
-    }
-
-    /// The zone's earliest point, if it has one.
-    #[must_use]
-    pub fn point(self) -> Option<Point> {
-        self.result().ok().flatten()
     }
 
     /// The refusal, if this is one.
@@ -86,15 +34,12 @@ impl Emptiness {
         self.result().err()
     }
 
-    /// Takes the words of an answer about a zone over so many clocks.
-    pub(crate) fn from_words(words: PointWords, clocks: u32) -> Emptiness {
+    pub(crate) fn from_words(words: Words) -> Emptiness {
         const CALL: &str = "zone_empty";
-        let good_clocks = (1..=MOST_CLOCKS).contains(&(clocks as usize)); // others are refused
-        match words {
-            [0, ..] if !good_clocks => broken(CALL, words),
-            [0, 1, 0, 0, 0, 0] => Emptiness::Empty,
-            [0, 0, ..] => Emptiness::NotEmpty(Point::from_words(CALL, words, clocks)),
-            [0, ..] => broken(CALL, words),
+        match (words[0], words[1]) {
+            (0, 1) => Emptiness::Empty,
+            (0, 0) => Emptiness::NotEmpty,
+            (0, _) => broken(CALL, words),
             _ => Emptiness::Refused(Refusal::from_words(CALL, 31..=32, words)),
         }
     }
@@ -104,7 +49,7 @@ impl fmt::Display for Emptiness {
     fn fmt(&self, out: &mut fmt::Formatter<'_>) -> fmt::Result {
         match self {
             Emptiness::Empty => out.write_str("EMPTY"),
-            Emptiness::NotEmpty(point) => write!(out, "NOT EMPTY {point}"),
+            Emptiness::NotEmpty => out.write_str("NOT EMPTY"),
             Emptiness::Refused(refusal) => refusal.write_line(out),
         }
     }

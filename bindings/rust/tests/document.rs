@@ -1,5 +1,4 @@
-//! The cases that document 01 lists under "Timeline M and table T", and document 02's earliest point
-//! of the zones among them (card 6).
+//! The cases that document 01 lists under "Timeline M and table T".
 
 mod common;
 
@@ -17,14 +16,6 @@ const CERTIFIED: Verdict = Verdict::Accepted(Certificate {
 
 fn refused(reason: Reason, place: usize) -> Verdict {
     Verdict::Refused(Refusal { reason, place })
-}
-
-/// The scale and the clocks of an answer that has a point.
-fn point(answer: Emptiness) -> (u32, Vec<u32>) {
-    let point = answer.point().expect("a point");
-    assert_eq!(answer, Emptiness::NotEmpty(point));
-    assert_eq!(answer.result(), Ok(Some(point)));
-    (point.scale(), point.clocks().to_vec())
 }
 
 /// T with its two B words replaced by one A word.
@@ -106,25 +97,11 @@ fn one_zone_inside_another() {
 
 #[test]
 fn empty_zones() {
-    let answer = zone_empty(1, &[0x50180FFE, 0x51081003]);
-    assert_eq!(answer.to_string(), "NOT EMPTY 5");
-    assert_eq!(point(answer), (2, vec![5])); // 2 and a half
+    assert_eq!(
+        zone_empty(1, &[0x50180FFE, 0x51081003]),
+        Emptiness::NotEmpty
+    );
     assert_eq!(zone_empty(1, &[0x51000FFF]), Emptiness::Empty);
-}
-
-/// Over each number of clocks: x1 > 0, x2 > x1 and so on, and no bound at all.
-#[test]
-fn earliest_points() {
-    let above = [0x50181000, 0x51281000, 0x52381000, 0x53481000];
-    for clocks in 1..=4 {
-        let zone = &above[..clocks as usize];
-        let point_of = |zone| point(zone_empty(clocks, zone));
-        assert_eq!(point_of(zone), (clocks + 1, (1..=clocks).collect()));
-        assert_eq!(point_of(&[]), (clocks + 1, vec![0; clocks as usize]));
-    }
-    // x1 >= 2, x2 >= 1, x1 - x2 <= 0: thirds of a time unit
-    let zone = [0x50100FFE, 0x50200FFF, 0x51201000];
-    assert_eq!(zone_empty(2, &zone).to_string(), "NOT EMPTY 6 6");
 }
 
 #[test]
@@ -135,7 +112,7 @@ fn no_words() {
     assert_eq!(judge(&[], &T), verdict);
     assert_eq!(read_model(&[]).refusal(), verdict.refusal());
     assert_eq!(judge(&M, &[]), refused(Reason::BadTableKind, 0));
-    assert_eq!(zone_empty(1, &[]).to_string(), "NOT EMPTY 0");
+    assert_eq!(zone_empty(1, &[]), Emptiness::NotEmpty);
     assert_eq!(zone_inside(1, &[], &[]), Inclusion::Inside);
     assert_eq!(zone_inside(1, &[], &[0x51001000]), Inclusion::NotInside);
     assert_eq!(zone_inside(1, &[0x51001000], &[]), Inclusion::Inside);

@@ -107,7 +107,6 @@ fn of_emptiness() {
         assert_eq!(answer, Emptiness::Refused(refusal));
         assert_eq!(answer.to_string(), line);
         assert_eq!(answer.result(), Err(refusal));
-        assert_eq!(answer.point(), None);
         assert_eq!(answer.refusal(), Some(refusal));
     };
     for clocks in [0, 5, u32::MAX] {
@@ -118,13 +117,11 @@ fn of_emptiness() {
     case(answer, Reason::BadBound, 1, "REFUSED 32 1");
 
     assert_eq!(Emptiness::Empty.to_string(), "EMPTY");
-    assert_eq!(Emptiness::Empty.result(), Ok(None));
-    assert_eq!(Emptiness::Empty.point(), None);
+    assert_eq!(Emptiness::Empty.result(), Ok(true));
     assert_eq!(Emptiness::Empty.refusal(), None);
-    let answer = zone_empty(1, &[GOOD]);
-    assert_eq!(answer.to_string(), "NOT EMPTY 0");
-    assert!(matches!(answer.result(), Ok(Some(_))));
-    assert_eq!(answer.refusal(), None);
+    assert_eq!(Emptiness::NotEmpty.to_string(), "NOT EMPTY");
+    assert_eq!(Emptiness::NotEmpty.result(), Ok(false));
+    assert_eq!(Emptiness::NotEmpty.refusal(), None);
 }
 
 #[test]

@@ -80,6 +80,11 @@ tally-less xs ys m (suc n) l h g f =
 
 -- ---- zeros behind the slots listed
 
+pub zero-at : (n i : ℕ) → ◌≡◌ {A = ℕ} (get_or (replicate n 0) i 0) 0
+zero-at zero i = refl
+zero-at (suc n) zero = refl
+zero-at (suc n) (suc i) = zero-at n i
+
 zeros-behind : (xs : List ℕ) (count n : ℕ) → length xs ≡ count + n → ((i : ℕ) → count ≤ i → get_or xs i 0 ≡ 0) → xs ≡ take count xs ++ replicate n 0
 zeros-behind [] zero zero e z = refl
 zeros-behind [] zero (suc n) e z = absurd (omega (arith, e))

@@ -14,7 +14,7 @@ use Rattle.zone.specs.Stores.{zone_at}
 use Rattle.zone.specs.Reading.{read_zone}
 use Rattle.zone.specs.declared.zones.Zone.{Zone as Square}
 use Rattle.model.specs.Index.{Kept}
-use Rattle.zone.proofs.Loops.{same_at}
+use Rattle.model.proofs.ZoneLaws.{same_at}
 use Rattle.table.specs.Fields.{location_of}
 use Rattle.judge.specs.Reaching.{waited_square}
 use Rattle.draft.specs.Nodes.{front_at, fronts_of, Holds}

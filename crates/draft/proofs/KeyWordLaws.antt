@@ -1,6 +1,6 @@
 -- The word of a bound, worked out from the bound's key. Assumes nothing.
 use Prim.Native.Nat.{ℕ, zero, suc, ◌+◌, ◌-◌, ◌*◌, ◌/◌, ◌%◌, ◌^◌, ◌≤◌, ◌<◌}
-use mathlib.Core.Path.{◌≡◌, refl}
+use mathlib.Core.Path.{◌≡◌, refl, ◌∙◌}
 use mathlib.Core.Bool.{cond, ◌&&◌}
 use native.Mathlib.Omega.{arith}
 use lib.Dec.{T, eqb, leb, leb→le, le→leb}
@@ -8,12 +8,13 @@ use lib.IntN.{ℤ, pos, negsuc, nat_abs, ◌+ℤ◌}
 use lib.Signed.{mag, lt_z, non_neg}
 use mir.Syntax.{w32}
 use mir.Val.{Fits, SFits, to_z, of_z}
+use mir.Facts.{to_z-of_z}
 use Rattle.zone.specs.Keys.{half, lowest}
 use Rattle.zone.specs.declared.bounds.Bound.{Bound as Cell}
 use Rattle.zone.proofs.Bools.{both, and, same_test}
 use Rattle.zone.proofs.Integers.{up, dn, abs-parts, abs-small, lt_z→, →lt_z, parts_add}
 use Rattle.zone.proofs.Limits.{halved}
-use Rattle.zone.proofs.Machine.{back32, not_negative, lifted, unsigned, lifted-fits, lifted-parts, lifted-cast}
+use Rattle.zone.proofs.Machine.{back32}
 use Rattle.drafting.specs.Words.{bound_word}
 use Rattle.draft.specs.Fronts.{bound_at, narrow_bound?}
 
@@ -56,28 +57,54 @@ narrow-test a h = rw (back32 a.key h) (same_test _ _ there back)
         let n = narrow→ z (leb→le (nat_abs (half z)) 4095 t) in
         and (lt_z (negsuc 8190) z) (lt_z z (pos 8192)) (→lt_z (negsuc 8190) z (omega arith)) (→lt_z z (pos 8192) (omega arith))
 
+-- ---- a number that is not negative
+record NotNegative (y : ℤ) : Type 0 where
+  test : T (non_neg y)
+  abs : nat_abs y ≡ up y
+  size : mag y ≡ up y
+  none : dn y ≡ 0
+
+not_negative : (y : ℤ) → dn y ≤ up y → NotNegative y
+not_negative (pos m) l = record { test = tt; abs = refl; size = refl; none = refl }
+not_negative (negsuc m) l = absurd (omega arith)
+
 -- ---- 8,192 more than the key of a narrow bound is twice the word's field, and the lowest bit
+twice : (z : ℤ) → Narrow z → nat_abs (z +ℤ pos 8192) ≡ 2 * nat_abs (half z +ℤ pos 4096) + lowest z
+twice z n =
+    let p = parts_add z (pos 8192) in
+    let q = parts_add (half z) (pos 4096) in
+    let t = halved z in
+    let r = not_negative (half z +ℤ pos 4096) (omega arith) in
+    let s = not_negative (z +ℤ pos 8192) (omega arith) in
+    omega arith
+
 module _ (z : ℤ) (h : mag z < 2 ^ 31) (n : Narrow z) where
-  pub raised-fits : SFits w32 (lifted z 8192)
-  raised-fits = lifted-fits z 8192 h (omega arith) (omega arith)
+  abbrev raised : ℤ
+  raised = to_z w32 (of_z w32 z) +ℤ pos 8192
+
+  raised_is : raised ≡ z +ℤ pos 8192
+  raised_is = rw (back32 z h) refl
+
+  sum : NotNegative (z +ℤ pos 8192)
+  sum = not_negative (z +ℤ pos 8192) (omega (arith, parts_add z (pos 8192)))
+
+  pub raised-fits : SFits w32 raised
+  raised-fits = rw raised_is (record { sfits = omega (arith, sum, parts_add z (pos 8192)) })
 
   abbrev field : ℕ
-  field = unsigned (lifted z 8192)
+  field = nat_abs (to_z w32 (of_z w32 raised))
 
-  parts : field + dn z ≡ up z + 8192
-  parts = lifted-parts z 8192 h (omega arith) (omega arith)
+  back : to_z w32 (of_z w32 raised) ≡ z +ℤ pos 8192
+  back = to_z-of_z raised-fits ∙ raised_is
 
   field-parts : field ≡ 2 * nat_abs (half z +ℤ pos 4096) + lowest z
-  field-parts =
-      let p = parts_add (half z) (pos 4096) in
-      let q = halved z in
-      omega (arith, parts, not_negative (half z +ℤ pos 4096) (omega arith))
+  field-parts = rw back (twice z n)
 
   pub field-small : field < 2 ^ 14
-  field-small = omega (arith, parts)
+  field-small = rw back (omega (arith, sum, parts_add z (pos 8192)))
 
-  pub cast_fits : T (non_neg (to_z w32 (of_z w32 (lifted z 8192)))) × Fits w32 field
-  cast_fits = lifted-cast z 8192 h (omega arith) (omega arith)
+  pub cast_fits : T (non_neg (to_z w32 (of_z w32 raised))) × Fits w32 field
+  cast_fits = let l = field-small in (rw back sum.test, omega arith)
 
 even_bit : (n : ℕ) → n < 2 → (1 - n) * 2 ^ 19 ≡ cond (eqb n 0) (2 ^ 19) 0
 even_bit zero h = refl

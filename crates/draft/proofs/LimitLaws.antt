@@ -54,9 +54,9 @@ unfolding limit_of
 absent-limit c e = rw e
 
 -- a bound that is at least as loose as another is not tighter
-not-tighter : (a b : Bound) → bounds.◌⊑◌ (bound_limit b) (bound_limit a) → tighter_bound? a b ≡ false
+not_tighter : (a b : Bound) → bounds.◌⊑◌ (bound_limit b) (bound_limit a) → tighter_bound? a b ≡ false
 unfolding tighter_bound?
-not-tighter a b h =
+not_tighter a b h =
     by (lt_z a.d b.d) (lt_z b.d a.d) a.strict b.strict (lt_z→ a.d b.d) (nlt_z→ b.d a.d)
     (omega (arith, h.at, parts-key a.d a.strict, parts-key b.d b.strict))
   where
@@ -114,7 +114,7 @@ module _ {R : Region} {y : Square} (s : Spans R y) (t : Tight y) where
             at = λ k k₁ v r. →holds k v b
                 (subst (bounds.Holds k (read v i) (read v j)) (table_at y i j hi hj ∙ e) ((s.into k k₁ v r).at i j hi hj));
           };
-          least = λ c ei ej h. not-tighter c b (subst (λ l. bounds.◌⊑◌ l (bound_limit c)) e (looser-there c ei ej h));
+          least = λ c ei ej h. not_tighter c b (subst (λ l. bounds.◌⊑◌ l (bound_limit c)) e (looser-there c ei ej h));
         }
 
     cell-boundless : finite? (cell y i j) ≡ false → Boundless R i j

@@ -14,8 +14,7 @@ use Rattle.zone.specs.Squares.{list_of, with_bound, passed_below, source, all?, 
 use Rattle.zone.specs.Reading.{with_word}
 use Rattle.zone.specs.Parts.{holding_square, rest_square}
 use Rattle.zone.specs.Stores.{zone_at, put_below, put_at, with_word_at}
-use Rattle.zone.specs.Earliest.{point}
-use Rattle.zone.proofs.Cases.{five_halves, zone-cases}
+use Rattle.zone.proofs.Cases.{zone-cases}
 use Rattle.model.specs.Kinds.{among, kind_of}
 use Rattle.model.specs.TableKinds.{table_kind_of}
 use Rattle.model.specs.Grammar.{follows, table_follows, numbered?, may_follow?, follows?, table_follows?}
@@ -136,8 +135,7 @@ answers = (
 answered : (words list : List ℕ) (a : Answer Certificate) → verdict_answer (computed words list) ≡ a → Judged words list a
 answered words list a e = subst (Judged words list) e (computes words list)
 
--- C = 2: clock 1 at most 3, clock 2 - clock 1 at most 2, lies inside clock 2 at most 5; not inside at most 4. Clock above 2 and below 3: not empty,
--- with the earliest point 5 at scale 2 (document 02, card 6)
+-- C = 2: clock 1 at most 3, clock 2 - clock 1 at most 2, lies inside clock 2 at most 5; not inside at most 4. Clock above 2 and below 3: not empty
 pub cases :
     Judged timeline table accepts ×
     Judged timeline (set table 3 0x90000000) (refused 19 4) ×
@@ -149,7 +147,7 @@ pub cases :
     Judged timeline (bounded_table 0x51001003) accepts ×
     AskedInside 2 (0x51001003 ∷ 0x52101002 ∷ []) (0x52001005 ∷ []) (accepted true) ×
     AskedInside 2 (0x51001003 ∷ 0x52101002 ∷ []) (0x52001004 ∷ []) (accepted false) ×
-    AskedEmpty 1 (0x50180FFE ∷ 0x51081003 ∷ []) (accepted (point five_halves))
+    AskedEmpty 1 (0x50180FFE ∷ 0x51081003 ∷ []) (accepted false)
 cases = (
   answered _ _ _ answers.0,
   answered _ _ _ answers.1,

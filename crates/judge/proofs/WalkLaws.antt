@@ -193,9 +193,6 @@ module _ (words : List ℕ) (whole : ℕ) (m : ModelKept) (contained : List Bool
         emptiness : empty? (common waited (zone_at m.zones (guards_at + a))) ≡ empty
         emptiness = rw (← r.reaches) (sym r.empties)
 
-        pub row-reach : Tightens 1 reach
-        row-reach = rw r.reaches (common-tightens i.tightens row-asked.guard)
-
         pub row-not-blocked : kind (get_or words at 0) ≡ table_number blocked → not empty ≡ true → finding.NotBlocked at ≡ goal
         unfolding rows_from
         row-not-blocked e un = sym (one-row ∙ rw (eq-eqb _ _ e, emptiness, not-true empty un))
@@ -219,7 +216,7 @@ module _ (words : List ℕ) (whole : ℕ) (m : ModelKept) (contained : List Bool
         unfolding rows_from RowsInRange row_size edges_at
         row-successors un fit el = record {
           none = i.none;
-          reached = row-reach;
+          reached = rw r.reaches (common-tightens i.tightens row-asked.guard);
           lands = λ j from to. row-asked.lands j from (rw (add-one a) at to);
           edges = fit.at (a + 1);
           place = refl;

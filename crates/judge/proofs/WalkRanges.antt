@@ -107,7 +107,6 @@ module _ (M : Model) (words : List ℕ) (m : ModelKept) (k : Kept) (x : Indexed 
         model = room;
         table = rooms;
         edges = record { at = x.edge_limits };
-        clocks = rw x.clocks formed.clocks;
         number = few;
         location = rw i.location in-slots;
       }

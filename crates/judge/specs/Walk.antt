@@ -93,7 +93,6 @@ module _ (words : List ℕ) (m : ModelKept) (k : TableKept) where
     pub model : ModelStoresFit m.edges m.zones
     pub table : TableStoresFit k.nodes k.zones
     pub edges : EdgesFit
-    pub clocks : m.index.clocks ≤ 4
     pub number : n < 64
     pub location : N.location < 16
 

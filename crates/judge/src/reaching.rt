@@ -1,6 +1,6 @@
 // The zones of a row's reach, and which nodes have zones within their invariants by the bounds as they stand.
-ghost use Rattle.std.specs.Prelude.{◌≡◌, ◌≤◌};
-ghost use Rattle.zone.specs.Squares.{empty?, Tightens};
+ghost use Rattle.std.specs.Prelude.{◌≡◌};
+ghost use Rattle.zone.specs.Squares.{Tightens};
 ghost use Rattle.table.specs.Index.{keep};
 ghost use Rattle.judge.specs.Reaching.{common, waited_square, contained_below, NodesAsked};
 
@@ -13,15 +13,6 @@ pub fn common(zone: Zone, other: Zone) -> Zone
     ensures { result ≡ common zone other }
 {
     zone.meet(other).tighten()
-}
-
-// Whether a reach is empty, so that its row is blocked: it has no earliest point (document 02, card 6).
-pub(crate) fn unattained(reach: Zone, clocks: u32) -> bool
-    requires { Tightens 1 reach × (clocks ≤ 4) }
-    ensures { result ≡ empty? reach }
-{
-    let earliest = reach.earliest(clocks);
-    earliest.is_none()
 }
 
 // What waiting attains from the states in a zone, within the invariant. Invariants may be lower bounds, and a zone need not lie in its

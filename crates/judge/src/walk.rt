@@ -45,15 +45,15 @@ pub(crate) fn rows_finding(
     let mut at = node.place + 1;
     'rows: for a in first_action..end_action {
         let reach = reaching::common(waited, Zone::load(guards, GUARDS + a));
+        let empty = reach.is_empty();
         let blocked = words::kind_of(list[at]) == kinds::BLOCKED;
         if blocked {
-            if !reaching::unattained(reach, index.clocks) {
+            if !empty {
                 finding = Finding::NotBlocked(at);
                 break 'rows;
             }
             at += 1;
         } else {
-            let empty = reach.is_empty();
             let limit = index.denominator as u64 * node.value as u64;
             let first = at;
             let mut sum: u64 = 0;

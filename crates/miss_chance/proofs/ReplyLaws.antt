@@ -1,4 +1,4 @@
--- A slice holds the words of an answer. Assumes nothing.
+-- A slice holds the four words of an answer. Assumes nothing.
 use Prim.Native.Nat.{ℕ, ◌<◌, ◌≤◌}
 use mathlib.Core.Path.{◌≡◌, refl, ap, ◌∙◌}
 use mathlib.Core.Bool.{Bool, true, false}
@@ -8,6 +8,8 @@ use mir.Val.{bool_byte}
 use lib.ListN.{length, drop, set}
 use Rattle.zone.specs.Checks.{Answer}
 use Rattle.miss_chance.specs.Replies.{answer_words, yes_words, length_words, Replies, Drafting, RepliesDraft}
+use Rattle.miss_chance.specs.Held.{reply_words}
+use Rattle.miss_chance.specs.declared.replies.Reply.{Reply}
 
 -- yes or no
 pub yes-written : (b : Bool) → bool_byte b ∷ 0 ∷ 0 ∷ [] ≡ yes_words b
@@ -22,38 +24,30 @@ four-written (x ∷ y ∷ []) a b c d h = absurd (omega arith)
 four-written (x ∷ y ∷ z ∷ []) a b c d h = absurd (omega arith)
 four-written (x ∷ y ∷ z ∷ w ∷ xs) a b c d h = refl
 
--- six
-pub six-written :
-    (xs : List ℕ) (a b c d e f : ℕ) → 6 ≤ length xs →
-    set (set (set (set (set (set xs 0 a) 1 b) 2 c) 3 d) 4 e) 5 f ≡ a ∷ b ∷ c ∷ d ∷ e ∷ f ∷ drop 6 xs
-six-written [] a b c d e f h = absurd (omega arith)
-six-written (x ∷ []) a b c d e f h = absurd (omega arith)
-six-written (x ∷ y ∷ xs) a b c d e f h = ap (λ (ws : List ℕ). a ∷ b ∷ ws) (four-written xs c d e f (omega arith))
+-- ---- what a call replies
 
--- ---- what a call replies, to so many words
-
-module _ {A : Type 0} (Says : Answer A → Type 0) (size : ℕ) (values : A → List ℕ) (before : List ℕ) where
+module _ {A : Type 0} (Says : Answer A → Type 0) (values : A → List ℕ) (before : List ℕ) where
   -- too few words: nothing is written
-  pub not_written : length before < size → Replies Says size values before before false
+  pub not_written : length before < 4 → Replies Says values before before false
   not_written h = record { short = λ _. (refl, refl); long = λ k. absurd (omega arith) }
 
   -- enough words
-  pub written : {after : List ℕ} (ws : List ℕ) (a : Answer A) → size ≤ length before → Says a → ws ≡ answer_words size values a →
-      after ≡ ws ++ drop size before → Replies Says size values before after true
-  written ws a h s e f = record {
+  pub written : {after : List ℕ} (r : Reply) (a : Answer A) → 4 ≤ length before → Says a → reply_words r ≡ answer_words values a →
+      after ≡ reply_words r ++ drop 4 before → Replies Says values before after true
+  written r a h s e f = record {
     short = λ k. absurd (omega arith);
-    long = λ _. (refl, record { answer = a; says = s; writes = f ∙ ap (λ us. us ++ drop size before) e });
+    long = λ _. (refl, record { answer = a; says = s; writes = f ∙ ap (λ ws. ws ++ drop 4 before) e });
   }
 
 -- ---- what the call that drafts a table replies
 
 module _ (model : List ℕ) (rounds : ℕ) (lent before : List ℕ) where
   pub draft-not-written : length before < 4 → RepliesDraft model rounds lent lent before before false
-  draft-not-written h = record { replies = not_written (Drafting model rounds lent lent) 4 length_words before h; untouched = λ _. refl }
+  draft-not-written h = record { replies = not_written (Drafting model rounds lent lent) length_words before h; untouched = λ _. refl }
 
-  pub draft-written : {table after : List ℕ} (ws : List ℕ) (a : Answer ℕ) → 4 ≤ length before → Drafting model rounds lent table a →
-      ws ≡ answer_words 4 length_words a → after ≡ ws ++ drop 4 before → RepliesDraft model rounds lent table before after true
-  draft-written {table} ws a h s e f = record {
-    replies = written (Drafting model rounds lent table) 4 length_words before ws a h s e f;
+  pub draft-written : {table after : List ℕ} (r : Reply) (a : Answer ℕ) → 4 ≤ length before → Drafting model rounds lent table a →
+      reply_words r ≡ answer_words length_words a → after ≡ reply_words r ++ drop 4 before → RepliesDraft model rounds lent table before after true
+  draft-written {table} r a h s e f = record {
+    replies = written (Drafting model rounds lent table) length_words before r a h s e f;
     untouched = λ k. absurd (omega arith);
   }

@@ -1,18 +1,16 @@
--- Document 01, "The four calls and their refusals", and document 02, cards 5 and 6, for C and Rust: how an answer stands in the first words of a slice
--- that the caller lends: of six where it is asked whether a zone is empty, of four otherwise. Assumes nothing.
-use Rattle.std.specs.Prelude.{ℕ, ◌-◌, ◌<◌, ◌≤◌, ◌≡◌, Bool, true, false, List, [], ◌∷◌, ◌++◌, length, drop, replicate}
-use Rattle.zone.specs.Earliest.{PointAnswer, no_point, point}
+-- Document 01, "The four calls and their refusals", and document 02, card 5, for C and Rust: how an answer stands in four words of a slice that the
+-- caller lends. Assumes nothing.
+use Rattle.std.specs.Prelude.{ℕ, ◌<◌, ◌≤◌, ◌≡◌, Bool, true, false, List, [], ◌∷◌, ◌++◌, length, drop}
 use Rattle.zone.specs.Checks.{Answer, refused, accepted}
 use Rattle.model.specs.declared.read.Counts.{Counts}
 use Rattle.acceptance.specs.Judging.{Judged, Exactly, BoundsSchedulers}
 use Rattle.acceptance.specs.declared.certificate.Certificate.{Certificate}
 use Rattle.drafting.specs.Drafting.{Drafted, CertifiesWritten}
 
--- an answer of so many words: a refusal is its number and its place with nothing else, so zeros follow; an acceptance is 0, which is no refusal's
--- number, and its values
-abbrev pub answer_words : {A : Type 0} → ℕ → (A → List ℕ) → Answer A → List ℕ
-answer_words size values (refused n p) = n ∷ p ∷ replicate (size - 2) 0
-answer_words size values (accepted a) = 0 ∷ values a
+-- a refusal is its number and its place with nothing else, so zeros follow; an acceptance is 0, which is no refusal's number, and its values
+abbrev pub answer_words : {A : Type 0} → (A → List ℕ) → Answer A → List ℕ
+answer_words values (refused n p) = n ∷ p ∷ 0 ∷ 0 ∷ []
+answer_words values (accepted a) = 0 ∷ values a
 
 -- b, V and the node count
 abbrev pub certificate_words : Certificate → List ℕ
@@ -27,25 +25,20 @@ abbrev pub yes_words : Bool → List ℕ
 yes_words true = 1 ∷ 0 ∷ 0 ∷ []
 yes_words false = 0 ∷ 0 ∷ 0 ∷ []
 
--- 1 for an empty zone; for another 0, and what clocks 1 to 4 read in its earliest point, each in a word of its own
-abbrev pub point_words : PointAnswer → List ℕ
-point_words no_point = 1 ∷ 0 ∷ 0 ∷ 0 ∷ 0 ∷ []
-point_words (point v) = 0 ∷ v 1 ∷ v 2 ∷ v 3 ∷ v 4 ∷ []
-
 -- the length of a draft
 abbrev pub length_words : ℕ → List ℕ
 length_words n = n ∷ 0 ∷ 0 ∷ []
 
--- `size` words or more: the first ones become those of an answer of which `Says` holds, and the others stay
-pub record Answered {A : Type 0} (Says : Answer A → Type 0) (size : ℕ) (values : A → List ℕ) (before after : List ℕ) : Type 0 where
+-- four words or more: the first four become those of an answer of which `Says` holds, and the others stay
+pub record Answered {A : Type 0} (Says : Answer A → Type 0) (values : A → List ℕ) (before after : List ℕ) : Type 0 where
   pub answer : Answer A
   pub says : Says answer
-  pub writes : after ≡ answer_words size values answer ++ drop size before
+  pub writes : after ≡ answer_words values answer ++ drop 4 before
 
--- a call, with the words lent to it before and after, and what it returns: fewer words than an answer takes stay as they are
-pub record Replies {A : Type 0} (Says : Answer A → Type 0) (size : ℕ) (values : A → List ℕ) (before after : List ℕ) (written : Bool) : Type 0 where
-  pub short : length before < size → (written ≡ false) × (after ≡ before)
-  pub long : size ≤ length before → (written ≡ true) × Answered Says size values before after
+-- a call, with the words lent to it before and after, and what it returns: fewer than four words stay as they are
+pub record Replies {A : Type 0} (Says : Answer A → Type 0) (values : A → List ℕ) (before after : List ℕ) (written : Bool) : Type 0 where
+  pub short : length before < 4 → (written ≡ false) × (after ≡ before)
+  pub long : 4 ≤ length before → (written ≡ true) × Answered Says values before after
 
 -- what is said of a verdict: demands 2 and 3
 pub record Verdicts (model table : List ℕ) (answer : Answer Certificate) : Type 0 where
@@ -60,5 +53,5 @@ pub record Drafting (model : List ℕ) (rounds : ℕ) (lent table : List ℕ) (a
 
 -- the call that drafts a table: where fewer than four words are lent for the answer, those lent for the table stay as they are too
 pub record RepliesDraft (model : List ℕ) (rounds : ℕ) (lent table before after : List ℕ) (written : Bool) : Type 0 where
-  pub replies : Replies (Drafting model rounds lent table) 4 length_words before after written
+  pub replies : Replies (Drafting model rounds lent table) length_words before after written
   pub untouched : length before < 4 → table ≡ lent

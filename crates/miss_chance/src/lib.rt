@@ -1,14 +1,13 @@
 // The seven calls for C and Rust. A slice passes as a pointer and then a length. Each of document 01's four, and the draft of document 02, card 5, writes its
-// answer to the first words of a slice that the caller lends, and returns true: to six where it asks whether a zone is empty (card 6), to four otherwise.
-// Where the slice has fewer it writes nothing and returns false.
+// answer to the first four words of a slice that the caller lends, and returns true; where the slice has fewer than four it writes nothing and returns false.
 // The two of the board, card 3, hand structs over and back by value; they are the board's calls from Rattle too.
-mod replies; // replies.rt: each answer as words
+mod replies; // replies.rt: each answer as four words
 
 ghost use Rattle.zone.specs.Questions.{AskedEmpty, AskedInside};
 ghost use Rattle.model.specs.Reading.{ReadModel};
 ghost use Rattle.board.specs.Board.{board};
 ghost use Rattle.board.specs.Replies.{submission, Submits, Ranks};
-ghost use Rattle.miss_chance.specs.Replies.{Replies, Verdicts, RepliesDraft, certificate_words, counts_words, yes_words, point_words};
+ghost use Rattle.miss_chance.specs.Replies.{Replies, Verdicts, RepliesDraft, certificate_words, counts_words, yes_words};
 
 use board::ranking::Ranking;
 use board::submissions::{Ledger, Request, Submitted};
@@ -22,7 +21,7 @@ use zone::questions;
 // Judges a table against a model.
 #[unsafe(no_mangle)]
 pub extern "C" fn miss_chance_judge(model: &[u32], table: &[u32], answer: &mut [u64]) -> bool
-    ensures { Replies (Verdicts model.now table.now) 4 certificate_words answer.old answer.new result }
+    ensures { Replies (Verdicts model.now table.now) certificate_words answer.old answer.new result }
 {
     if answer.len() < 4 {
         return false;
@@ -51,7 +50,7 @@ pub extern "C" fn miss_chance_draft(
 // Reads a model.
 #[unsafe(no_mangle)]
 pub extern "C" fn miss_chance_read_model(model: &[u32], answer: &mut [u64]) -> bool
-    ensures { Replies (ReadModel model.now) 4 counts_words answer.old answer.new result }
+    ensures { Replies (ReadModel model.now) counts_words answer.old answer.new result }
 {
     if answer.len() < 4 {
         return false;
@@ -60,15 +59,15 @@ pub extern "C" fn miss_chance_read_model(model: &[u32], answer: &mut [u64]) -> b
     true
 }
 
-// Asks whether a zone is empty at every scale and, where it is not, for its earliest point.
+// Asks whether a zone is empty at every scale.
 #[unsafe(no_mangle)]
 pub extern "C" fn miss_chance_zone_empty(clocks: u32, zone: &[u32], answer: &mut [u64]) -> bool
-    ensures { Replies (AskedEmpty clocks zone.now) 6 point_words answer.old answer.new result }
+    ensures { Replies (AskedEmpty clocks zone.now) yes_words answer.old answer.new result }
 {
-    if answer.len() < 6 {
+    if answer.len() < 4 {
         return false;
     }
-    replies::put_point(
+    replies::put(
         replies::of_emptiness(questions::zone_empty(clocks, zone)),
         answer,
     );
@@ -83,7 +82,7 @@ pub extern "C" fn miss_chance_zone_inside(
     second: &[u32],
     answer: &mut [u64],
 ) -> bool
-    ensures { Replies (AskedInside clocks first.now second.now) 4 yes_words answer.old answer.new result }
+    ensures { Replies (AskedInside clocks first.now second.now) yes_words answer.old answer.new result }
 {
     if answer.len() < 4 {
         return false;

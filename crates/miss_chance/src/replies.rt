@@ -1,11 +1,11 @@
-// Each answer as the words that a C or Rust caller gets: six for the question whether a zone is empty, four for the others.
+// Each answer as the four words that a C or Rust caller gets.
 ghost use Rattle.std.specs.Prelude.{◌≡◌, ◌≤◌, ◌∷◌, ◌++◌, length, drop};
 ghost use Rattle.zone.specs.Questions.{emptiness_answer, inclusion_answer};
 ghost use Rattle.model.specs.Reading.{model_answer};
 ghost use Rattle.judge.specs.Verdicts.{verdict_answer};
 ghost use Rattle.draft.specs.Answers.{draft_answer};
-ghost use Rattle.miss_chance.specs.Replies.{answer_words, certificate_words, counts_words, yes_words, point_words, length_words};
-ghost use Rattle.miss_chance.specs.Held.{reply_words, refusal_reply, point_reply_words, no_point_reply};
+ghost use Rattle.miss_chance.specs.Replies.{answer_words, certificate_words, counts_words, yes_words, length_words};
+ghost use Rattle.miss_chance.specs.Held.{reply_words, refusal_reply};
 
 use draft::call::DraftAnswer;
 use draft::numbers as drafts;
@@ -49,7 +49,7 @@ pub(crate) fn answered(yes: bool) -> Reply
 
 // The reply to judging.
 pub(crate) fn of_verdict(verdict: Verdict) -> Reply
-    ensures { reply_words result ≡ answer_words 4 certificate_words (verdict_answer verdict) }
+    ensures { reply_words result ≡ answer_words certificate_words (verdict_answer verdict) }
 {
     let told = numbers::in_numbers(verdict);
     if told.number != 0 {
@@ -65,7 +65,7 @@ pub(crate) fn of_verdict(verdict: Verdict) -> Reply
 
 // The reply to drafting a table.
 pub(crate) fn of_draft(answer: DraftAnswer) -> Reply
-    ensures { reply_words result ≡ answer_words 4 length_words (draft_answer answer) }
+    ensures { reply_words result ≡ answer_words length_words (draft_answer answer) }
 {
     let told = drafts::in_numbers(answer);
     if told.number != 0 {
@@ -81,7 +81,7 @@ pub(crate) fn of_draft(answer: DraftAnswer) -> Reply
 
 // The reply to reading a model.
 pub(crate) fn of_model(answer: ModelAnswer) -> Reply
-    ensures { reply_words result ≡ answer_words 4 counts_words (model_answer answer) }
+    ensures { reply_words result ≡ answer_words counts_words (model_answer answer) }
 {
     match answer {
         ModelAnswer::Accepted(counts) => Reply {
@@ -99,9 +99,21 @@ pub(crate) fn of_model(answer: ModelAnswer) -> Reply
     }
 }
 
+// The reply to whether a zone is empty.
+pub(crate) fn of_emptiness(answer: Emptiness) -> Reply
+    ensures { reply_words result ≡ answer_words yes_words (emptiness_answer answer) }
+{
+    match answer {
+        Emptiness::Empty => answered(true),
+        Emptiness::NotEmpty => answered(false),
+        Emptiness::BadClocks => refusal(31, 0),
+        Emptiness::BadBound(place) => refusal(32, place),
+    }
+}
+
 // The reply to whether one zone lies inside another.
 pub(crate) fn of_inclusion(answer: Inclusion) -> Reply
-    ensures { reply_words result ≡ answer_words 4 yes_words (inclusion_answer answer) }
+    ensures { reply_words result ≡ answer_words yes_words (inclusion_answer answer) }
 {
     match answer {
         Inclusion::Inside => answered(true),
@@ -121,62 +133,4 @@ pub(crate) fn put(reply: Reply, out: &mut [u64])
     out[1] = reply.first;
     out[2] = reply.second;
     out[3] = reply.third;
-}
-
-// The answer whether a zone is empty as six words: the number of a refusal and its place, or 0, whether the zone is empty, and what clocks 1 to 4 read in its
-// earliest point. Zeros fill up.
-#[derive(Drop)]
-pub(crate) struct PointReply {
-    pub number: u64,
-    pub first: u64,
-    pub c1: u64,
-    pub c2: u64,
-    pub c3: u64,
-    pub c4: u64,
-}
-
-// Two words and no point: a refusal, or a zone that is empty.
-pub(crate) fn without_point(number: u64, first: usize) -> PointReply
-    ensures { result ≡ no_point_reply number first }
-{
-    PointReply {
-        number,
-        first: first as u64,
-        c1: 0,
-        c2: 0,
-        c3: 0,
-        c4: 0,
-    }
-}
-
-// The reply to whether a zone is empty.
-pub(crate) fn of_emptiness(answer: Emptiness) -> PointReply
-    ensures { point_reply_words result ≡ answer_words 6 point_words (emptiness_answer answer) }
-{
-    match answer {
-        Emptiness::Empty => without_point(0, 1),
-        Emptiness::NotEmpty(point) => PointReply {
-            number: 0,
-            first: 0,
-            c1: point.c1 as u64,
-            c2: point.c2 as u64,
-            c3: point.c3 as u64,
-            c4: point.c4 as u64,
-        },
-        Emptiness::BadClocks => without_point(31, 0),
-        Emptiness::BadBound(place) => without_point(32, place),
-    }
-}
-
-// Writes it to the first six words of the slice.
-pub(crate) fn put_point(reply: PointReply, out: &mut [u64])
-    requires { 6 ≤ length out.old }
-    ensures { out.new ≡ point_reply_words reply ++ drop 6 out.old }
-{
-    out[0] = reply.number;
-    out[1] = reply.first;
-    out[2] = reply.c1;
-    out[3] = reply.c2;
-    out[4] = reply.c3;
-    out[5] = reply.c4;
 }

@@ -38,7 +38,7 @@ use Rattle.model.proofs.Checking.{answer_of, words-first}
 use Rattle.model.proofs.Counts.{counts_end, place_end, start-below}
 use Rattle.model.proofs.Indexing.{indexed}
 use Rattle.model.proofs.GoodModel.{good-model}
-use Rattle.model.proofs.Starting.{start-thrice, start-yes, start-no}
+use Rattle.model.proofs.Starting.{start_fits, start-yes, start-no}
 use Rattle.model.proofs.IndexLaws.{location-at}
 
 -- the answer of the whole file, from what the pass leaves
@@ -120,8 +120,8 @@ module _ (words es : List ℕ) (zs : List ℤ) (fit : StoresFit es zs) where
     invariant : zone_at kept.zones M.start ≡ with_bounds (location_at M M.start).invariant universe
     invariant = (location-at x M.start start-exists).invariant
 
-    tightens : Tightens 3 (met (zone_at kept.zones seen.start) (zone_at kept.zones start_bounds_at))
-    tightens = rw starts (start-thrice M kept.zones (good-model words run) invariant x.start_bounds)
+    tightens : Tightens 1 (met (zone_at kept.zones seen.start) (zone_at kept.zones start_bounds_at))
+    tightens = rw starts (start_fits M kept.zones (good-model words run) invariant x.start_bounds)
 
     present : empty? (start_square seen.start kept.zones) ≡ false → HasStart M
     present e = start-yes M kept.zones (good-model words run) invariant x.start_bounds start-exists (rw (sym starts) e)
@@ -152,9 +152,9 @@ module _ (words es : List ℕ) (zs : List ℤ) (fit : StoresFit es zs) where
   unfolding scanned
   ended run = end_of nothing (keep empty_index es zs) 0 words run ∙ rw (zero-add (length words))
 
-  -- the zone of the start valuations can be tightened three times
+  -- the zone of the start valuations can be tightened
   pub start-tightens : (q : Pass) {y z : Square} → q ≡ pass → q.fault ≡ fault.None →
-      y ≡ zone_at q.kept.zones q.seen.start → z ≡ zone_at q.kept.zones start_bounds_at → Tightens 3 (met y z)
+      y ≡ zone_at q.kept.zones q.seen.start → z ≡ zone_at q.kept.zones start_bounds_at → Tightens 1 (met y z)
   start-tightens q same none first second =
       let run : Run nothing 0 words = run_where (ap (λ (q : Pass). q.fault) (sym same) ∙ none) in
       rw (first, second, same ∙ ended run) (tightens run)

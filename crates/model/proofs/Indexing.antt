@@ -28,8 +28,7 @@ use Rattle.model.proofs.Walk.{Bounded, Step, a-head, a-location, an-action, an-e
 use Rattle.model.proofs.Walk.{limits-end, no_edges, Last, last_of}
 use Rattle.model.proofs.Counts.{headed}
 use Rattle.model.proofs.Slots.{Opened, opened_with, nowhere, own-end}
-use Rattle.zone.proofs.Loops.{same_at}
-use Rattle.model.proofs.ZoneLaws.{set_at}
+use Rattle.model.proofs.ZoneLaws.{same_at, set_at}
 use Rattle.model.proofs.Entries.{Sized, sized-empty, sized_with, Lasts, lasts-end, numbers-end}
 
 -- what is kept in the end, e, describes the parts P that follow the words seen

@@ -35,14 +35,11 @@ module _
         (stands-met (stands-bounds (location_at M M.start).invariant (good.invariants M.start))
         (stands-bounds M.start_bounds good.start_bounds))
 
-    pub start-thrice : Tightens 3 (met (zone_at zs M.start) (zone_at zs start_bounds_at))
-    start-thrice =
-        rw (invariant, start_bounds)
-        (small-met _ (tightens-bounds (location_at M M.start).invariant (good.invariants M.start))
-        _ (tightens-bounds M.start_bounds good.start_bounds))
-
     pub start_fits : Tightens 1 (met (zone_at zs M.start) (zone_at zs start_bounds_at))
-    start_fits = tightens-fewer 1 3 _ (omega arith) start-thrice
+    start_fits =
+        rw (invariant, start_bounds)
+        (tightens-fewer 1 3 _ (omega arith) (small-met _ (tightens-bounds (location_at M M.start).invariant (good.invariants M.start))
+        _ (tightens-bounds M.start_bounds good.start_bounds)))
 
     pub start-yes : M.start < length M.locations → empty? (start_square M.start zs) ≡ false → HasStart M
     unfolding start_square

@@ -122,9 +122,8 @@ pub fn index_model(list: &[u32], edges: &mut [u32], zones: &mut [i32]) -> ModelR
     let invariant = Zone::load(zones, seen.start as usize);
     let bounds = Zone::load(zones, START_BOUNDS);
     let initial = invariant.meet(bounds).tighten();
-    let earliest = initial.earliest(seen.clocks);
     let missing = missing_of(list, seen);
-    let answer = whole_answer(missing, earliest.is_none(), seen);
+    let answer = whole_answer(missing, initial.is_empty(), seen);
     ModelRead {
         answer,
         index,

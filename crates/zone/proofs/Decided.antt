@@ -1,24 +1,20 @@
--- The two questions, decided by square tables, are answered as document 01 and document 02, card 6, say. Assumes nothing.
-use Prim.Native.Nat.{ℕ, suc, ◌-◌, ◌≤◌}
+-- The two questions, decided by square tables, are answered as document 01 says. Assumes nothing.
+use Prim.Native.Nat.{ℕ, suc, ◌≤◌}
 use mathlib.Core.Path.{◌≡◌, refl, sym}
 use mathlib.Core.Logic.{◌↔◌, ◌⊎◌, inl, inr}
 use mathlib.Core.Bool.{Bool, true, false, cond, ◌||◌}
 use mathlib.Core.List.{List, [], ◌∷◌, ◌++◌}
+use native.Mathlib.Omega.{arith}
 use borrow.Author.Tests.{leb-true}
 use lib.Dec.{T, leb}
-use Rattle.zone.specs.Scale.{holds?, in?, Region, within, Inside}
-use Rattle.zone.specs.Earliest.{PointAnswer, no_point, point, EarliestAnswer}
-use Rattle.zone.specs.Points.{rounds_of, point_of, earliest_of}
+use Rattle.zone.specs.Scale.{holds?, in?, Region, within, Empty, Inside}
 use Rattle.zone.specs.Words.{bound_of, good_bound?, zone_of}
 use Rattle.zone.specs.Checks.{Answer, refused, accepted, First}
 use Rattle.zone.specs.Questions.{clocks?, clock_check, bound_checks, AskedEmpty, AskedInside, emptiness_answer, inclusion_answer}
 use Rattle.zone.specs.Squares.{universe, tightened, empty?, inside?}
 use Rattle.zone.specs.Reading.{with_word, read_from, read_zone}
-use Rattle.zone.proofs.Deciding.{by_point, empty_from, decide_empty, inside_from, decide_inside}
+use Rattle.zone.proofs.Deciding.{empty_from, decide_empty, inside_from, decide_inside}
 use Rattle.zone.specs.declared.zones.Zone.{Zone as Square}
-use Rattle.zone.specs.declared.points.Point.{Point}
-use Rattle.zone.specs.declared.points.Earliest.{Earliest}
-use Rattle.zone.specs.declared.points.Earliest.TheVariants as earliest
 use Rattle.zone.specs.declared.questions.ZoneRead.{ZoneRead}
 use Rattle.zone.specs.declared.questions.Emptiness.{Emptiness}
 use Rattle.zone.specs.declared.questions.Emptiness.TheVariants as emptiness
@@ -26,77 +22,69 @@ use Rattle.zone.specs.declared.questions.Inclusion.{Inclusion}
 use Rattle.zone.specs.declared.questions.Inclusion.TheVariants as inclusion
 use Rattle.zone.proofs.CheckLaws.{first-join, first-all, first-before}
 use Rattle.zone.proofs.ReadLaws.{read-good, read-bad}
+use Rattle.zone.proofs.WordLaws.{good-first, good-second, good-number}
 use Rattle.zone.proofs.Sizes.{tightens-read}
-use Rattle.zone.proofs.Bools.{false_true, both, and, left_true, right_true}
-use Rattle.zone.proofs.Regions.{Stands, in_both, holding}
-use Rattle.zone.proofs.Spans.{spans, empty-yes, lies-yes, lies-no}
-use Rattle.zone.proofs.EarliestLaws.{point_at}
-use Rattle.zone.proofs.AtOneScale.{Over, over-same, over-universe, over-holding, good-bound, found}
+use Rattle.zone.proofs.Bools.{false_true, both, and, right_true}
+use Rattle.zone.proofs.Regions.{Stands, in_both, holding, stands_same, stands-universe, stands-with_bound}
+use Rattle.zone.proofs.Spans.{spans, empty-yes, empty-no, lies-yes, lies-no}
 
--- ---- the table that is read is that of the zone of the words, and has no bounds of the clocks above C
+-- ---- the table that is read stands for the zone of the words
 module _ (C : ℕ) (h : C ≤ 4) where
-  word_over : {R : Region} {z : Square} (w : ℕ) → good_bound? C w ≡ true → Over C R z → Over C (in_both (holding (bound_of w)) R) (with_word w z)
+  word_stands : {R : Region} {z : Square} (w : ℕ) → good_bound? C w ≡ true → Stands R z → Stands (in_both (holding (bound_of w)) R) (with_word w z)
   unfolding with_word
-  word_over w g o = over-holding C h (bound_of w) (good-bound C w g) o
+  word_stands w g s =
+      stands-with_bound (bound_of w) (omega (arith, good-first C w g)) (omega (arith, good-second C w g)) (good-number C w g) s
 
-  from-over : {R : Region} (ws : List ℕ) (p : ℕ) {z : Square} → Over C R z → (read_from C ws p z).good ≡ true →
-      Over C (in_both (within (zone_of ws)) R) (read_from C ws p z).zone
+  from-stands : {R : Region} (ws : List ℕ) (p : ℕ) {z : Square} → Stands R z → (read_from C ws p z).good ≡ true →
+      Stands (in_both (within (zone_of ws)) R) (read_from C ws p z).zone
   unfolding read_from within zone_of in?
-  from-over [] p o e = over-same (λ k v r. (tt, r)) (λ k v r. r.1) o
-  from-over {R} (w ∷ ws) p {z} o e = by (good_bound? C w) (λ g. from-over ws (suc p) (word_over w g o)) e
+  from-stands [] p s e = stands_same (λ k v r. (tt, r)) (λ k v r. r.1) s
+  from-stands {R} (w ∷ ws) p {z} s e = by (good_bound? C w) (word_stands w) (λ s. from-stands ws (suc p) s) e
     where
-      by : (c : Bool) → (c ≡ true → (read_from C ws (suc p) (with_word w z)).good ≡ true →
-          Over C (in_both (within (zone_of ws)) (in_both (holding (bound_of w)) R)) (read_from C ws (suc p) (with_word w z)).zone) →
+      by : (c : Bool) → (c ≡ true → Stands R z → Stands (in_both (holding (bound_of w)) R) (with_word w z)) →
+          (Stands (in_both (holding (bound_of w)) R) (with_word w z) → (read_from C ws (suc p) (with_word w z)).good ≡ true →
+          Stands (in_both (within (zone_of ws)) (in_both (holding (bound_of w)) R)) (read_from C ws (suc p) (with_word w z)).zone) →
           (cond c (read_from C ws (suc p) (with_word w z)) (record { good = false; place = p; zone = z })).good ≡ true →
-          Over C (in_both (within (bound_of w ∷ zone_of ws)) R)
+          Stands (in_both (within (bound_of w ∷ zone_of ws)) R)
           (cond c (read_from C ws (suc p) (with_word w z)) (record { good = false; place = p; zone = z })).zone
-      by true rest e = over-same
+      by true f rest e = stands_same
           (λ k v r. (and (holds? k v (bound_of w)) (in? k v (zone_of ws)) r.1.0 r.0, r.1.1))
           (λ k v r. let (a, b) = both (holds? k v (bound_of w)) (in? k v (zone_of ws)) r.0 in (b, (a, r.1)))
-          (rest refl e)
-      by false rest e = false_true e
+          (rest (f refl s) e)
+      by false f rest e = false_true e
 
-  pub read-over : (ws : List ℕ) → (read_zone C ws).good ≡ true → Over C (within (zone_of ws)) (read_zone C ws).zone
+  pub read-stands : (ws : List ℕ) → (read_zone C ws).good ≡ true → Stands (within (zone_of ws)) (read_zone C ws).zone
   unfolding read_zone within in?
-  read-over ws e = over-same (λ k v r. r.0) (λ k v r. (r, tt)) (from-over ws 0 (over-universe C) e)
-
-  read-stands : (ws : List ℕ) → (read_zone C ws).good ≡ true → Stands (within (zone_of ws)) (read_zone C ws).zone
-  read-stands ws e = (read-over ws e).stands
+  read-stands ws e = stands_same (λ k v r. r.0) (λ k v r. (r, tt)) (from-stands ws 0 stands-universe e)
 
 pub clocks-few : (C : ℕ) → clocks? C ≡ true → C ≤ 4
 clocks-few C e = leb-true C 4 (right_true (leb 1 C) (leb C 4) e)
 
-pub clocks-some : (C : ℕ) → clocks? C ≡ true → 1 ≤ C
-clocks-some C e = leb-true 1 C (left_true (leb 1 C) (leb C 4) e)
-
--- ---- is a zone empty, and what is its earliest point?
+-- ---- is a zone empty?
 module _ (C : ℕ) (words : List ℕ) where
-  abbrev Answers : PointAnswer → Type 0
-  Answers = EarliestAnswer C (within (zone_of words))
+  abbrev Empties : Bool → Type 0
+  Empties yes? = T yes? ↔ Empty (within (zone_of words))
 
-  emptied : 1 ≤ C → C ≤ 4 → First (bound_checks 32 C 0 words) Answers (emptiness_answer (empty_from C (read_zone C words)))
-  unfolding empty_from earliest_of emptiness_answer read_zone
-  emptied h k = by (read_zone C words).good (empty? (tightened (read_zone C words).zone)) refl refl
+  emptied : C ≤ 4 → First (bound_checks 32 C 0 words) Empties (emptiness_answer (empty_from (read_zone C words)))
+  unfolding empty_from emptiness_answer read_zone
+  emptied h = by (read_zone C words).good (empty? (tightened (read_zone C words).zone)) refl refl
     where
       by : (g e : Bool) → (read_zone C words).good ≡ g → empty? (tightened (read_zone C words).zone) ≡ e →
-          First (bound_checks 32 C 0 words) Answers
-          (emptiness_answer (cond g
-          (by_point (cond e earliest.None (earliest.At (point_of (rounds_of (suc C) (tightened (read_zone C words).zone) (C - 1))))))
-          (emptiness.BadBound (read_zone C words).place)))
-      by false e p q = read-bad 32 C Answers words 0 universe p
-      by true true p q = first-all (bound_checks 32 C 0 words) Answers no_point (read-good 32 C words 0 universe p)
-          (empty-yes (tightens-read C words) (spans (read-stands C k words p)) q)
-      by true false p q =
-          first-all (bound_checks 32 C 0 words) Answers (point (point_at C (read_zone C words).zone)) (read-good 32 C words 0 universe p)
-          (found C h k (read-over C k words p) q)
+          First (bound_checks 32 C 0 words) Empties
+          (emptiness_answer (cond g (cond e emptiness.Empty emptiness.NotEmpty) (emptiness.BadBound (read_zone C words).place)))
+      by false e p q = read-bad 32 C Empties words 0 universe p
+      by true true p q = first-all (bound_checks 32 C 0 words) Empties true (read-good 32 C words 0 universe p)
+          ((λ _. empty-yes (tightens-read C words) (spans (read-stands C h words p)) q), λ _. tt)
+      by true false p q = first-all (bound_checks 32 C 0 words) Empties false (read-good 32 C words 0 universe p)
+          ((λ f. absurd f), λ m. empty-no (tightens-read C words) (spans (read-stands C h words p)) q m)
 
   pub decided-empty : AskedEmpty C words (emptiness_answer (decide_empty C words))
   unfolding decide_empty emptiness_answer clock_check
-  decided-empty = record { says = by (clocks? C) (λ e. emptied (clocks-some C e) (clocks-few C e)) }
+  decided-empty = record { says = by (clocks? C) (λ e. emptied (clocks-few C e)) }
     where
-      by : (c : Bool) → (c ≡ true → First (bound_checks 32 C 0 words) Answers (emptiness_answer (empty_from C (read_zone C words)))) →
-          (T c × First (bound_checks 32 C 0 words) Answers (emptiness_answer (cond c (empty_from C (read_zone C words)) emptiness.BadClocks)))
-          ⊎ ((T c → ⊥) × (emptiness_answer (cond c (empty_from C (read_zone C words)) emptiness.BadClocks) ≡ refused 31 0))
+      by : (c : Bool) → (c ≡ true → First (bound_checks 32 C 0 words) Empties (emptiness_answer (empty_from (read_zone C words)))) →
+          (T c × First (bound_checks 32 C 0 words) Empties (emptiness_answer (cond c (empty_from (read_zone C words)) emptiness.BadClocks)))
+          ⊎ ((T c → ⊥) × (emptiness_answer (cond c (empty_from (read_zone C words)) emptiness.BadClocks) ≡ refused 31 0))
       by true f = inl (tt, f refl)
       by false f = inr ((λ t. t), refl)
 
@@ -166,14 +154,14 @@ module _ (C : ℕ) (words : List ℕ) where
     unfolding decide_empty empty_from
     bad-empty h e b = simp (h, sym e, b)
 
-    module _ {e : Earliest} (g : GoodRead C words r) (t : e ≡ earliest_of C (tightened r.zone)) where
-      pub yes-empty : e ≡ earliest.None → emptiness.Empty ≡ decide_empty C words
+    module _ {z : Square} (g : GoodRead C words r) (t : z ≡ tightened r.zone) where
+      pub yes-empty : empty? z ≡ true → emptiness.Empty ≡ decide_empty C words
       unfolding decide_empty empty_from
       yes-empty y = simp (g.clocks, sym g.reads, g.good, sym t, y)
 
-      pub no-empty : (p : Point) → e ≡ earliest.At p → emptiness.NotEmpty p ≡ decide_empty C words
+      pub no-empty : empty? z ≡ false → emptiness.NotEmpty ≡ decide_empty C words
       unfolding decide_empty empty_from
-      no-empty p y = simp (g.clocks, sym g.reads, g.good, sym t, y)
+      no-empty y = simp (g.clocks, sym g.reads, g.good, sym t, y)
 
 module _ (C : ℕ) (first second : List ℕ) where
   pub answers-inside : (a : Inclusion) → a ≡ decide_inside C first second → AskedInside C first second (inclusion_answer a)

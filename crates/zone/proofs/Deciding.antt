@@ -3,26 +3,19 @@ use Prim.Native.Nat.{ℕ}
 use mathlib.Core.Bool.{cond, ◌||◌}
 use mathlib.Core.List.{List}
 use Rattle.zone.specs.Squares.{tightened, empty?, inside?}
-use Rattle.zone.specs.Points.{earliest_of}
 use Rattle.zone.specs.Reading.{read_zone}
 use Rattle.zone.specs.Questions.{clocks?}
-use Rattle.zone.specs.declared.points.Earliest.{Earliest}
-use Rattle.zone.specs.declared.points.Earliest.TheVariants as earliest
 use Rattle.zone.specs.declared.questions.Emptiness.{Emptiness}
 use Rattle.zone.specs.declared.questions.Emptiness.TheVariants as emptiness
 use Rattle.zone.specs.declared.questions.Inclusion.{Inclusion}
 use Rattle.zone.specs.declared.questions.Inclusion.TheVariants as inclusion
 use Rattle.zone.specs.declared.questions.ZoneRead.{ZoneRead}
 
-abbrev pub by_point : Earliest → Emptiness
-by_point earliest.None = emptiness.Empty
-by_point (earliest.At p) = emptiness.NotEmpty p
-
-unfoldable pub empty_from : ℕ → ZoneRead → Emptiness
-empty_from C r = cond r.good (by_point (earliest_of C (tightened r.zone))) (emptiness.BadBound r.place)
+unfoldable pub empty_from : ZoneRead → Emptiness
+empty_from r = cond r.good (cond (empty? (tightened r.zone)) emptiness.Empty emptiness.NotEmpty) (emptiness.BadBound r.place)
 
 unfoldable pub decide_empty : ℕ → List ℕ → Emptiness
-decide_empty C words = cond (clocks? C) (empty_from C (read_zone C words)) emptiness.BadClocks
+decide_empty C words = cond (clocks? C) (empty_from (read_zone C words)) emptiness.BadClocks
 
 unfoldable pub inside_from : ZoneRead → ZoneRead → Inclusion
 inside_from r s =

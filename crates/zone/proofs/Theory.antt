@@ -8,5 +8,3 @@ pub mod Inside
 pub mod Delay
 pub mod Reset
 pub mod Reach
-pub mod OneScale
-pub mod Rounds

@@ -1,10 +1,8 @@
--- Document 01, "The four calls and their refusals", and document 02, card 6: the two questions about zones. Assumes nothing.
-use Rattle.std.specs.Prelude.{ℕ, zero, suc, ◌↔◌, Bool, true, false, ◌&&◌, List, [], ◌∷◌, ◌++◌, T, leb, get_or}
-use Rattle.zone.specs.Scale.{Valuation, within, Inside}
-use Rattle.zone.specs.Earliest.{PointAnswer, no_point, point, EarliestAnswer}
+-- Document 01, "The four calls and their refusals": the two questions about zones. Assumes nothing.
+use Rattle.std.specs.Prelude.{ℕ, suc, ◌↔◌, Bool, true, false, ◌&&◌, List, [], ◌∷◌, ◌++◌, T, leb}
+use Rattle.zone.specs.Scale.{within, Empty, Inside}
 use Rattle.zone.specs.Words.{good_bound?, zone_of}
 use Rattle.zone.specs.Checks.{Answer, refused, accepted, Check, test, First}
-use Rattle.zone.specs.declared.points.Point.{Point}
 use Rattle.zone.specs.declared.questions.Emptiness.{Emptiness}
 use Rattle.zone.specs.declared.questions.Emptiness.TheVariants as emptiness
 use Rattle.zone.specs.declared.questions.Inclusion.{Inclusion}
@@ -23,9 +21,9 @@ unfoldable pub bound_checks : ℕ → ℕ → ℕ → List ℕ → List Check
 bound_checks number C p [] = []
 bound_checks number C p (w ∷ ws) = test number p (good_bound? C w) ∷ bound_checks number C (suc p) ws
 
--- Asking whether a zone is empty takes C and bound words: 31, then 32. Where it is not, the answer is its earliest point (document 02, card 6)
-pub record AskedEmpty (C : ℕ) (words : List ℕ) (answer : Answer PointAnswer) : Type 0 where
-  pub says : First (clock_check C ∷ bound_checks 32 C 0 words) (EarliestAnswer C (within (zone_of words))) answer
+-- Asking whether a zone is empty takes C and bound words: 31, then 32
+pub record AskedEmpty (C : ℕ) (words : List ℕ) (answer : Answer Bool) : Type 0 where
+  pub says : First (clock_check C ∷ bound_checks 32 C 0 words) (λ yes?. T yes? ↔ Empty (within (zone_of words))) answer
 
 -- Asking whether one zone lies inside another gives 31, then 32 for the first list, 33 for the second
 pub record AskedInside (C : ℕ) (first second : List ℕ) (answer : Answer Bool) : Type 0 where
@@ -33,15 +31,10 @@ pub record AskedInside (C : ℕ) (first second : List ℕ) (answer : Answer Bool
       First (clock_check C ∷ (bound_checks 32 C 0 first ++ bound_checks 33 C 0 second))
       (λ yes?. T yes? ↔ Inside (within (zone_of first)) (within (zone_of second))) answer
 
--- what the clocks read in a point
-unfoldable pub valuation_of : Point → Valuation
-valuation_of p zero = 0
-valuation_of p (suc i) = get_or (p.c1 ∷ p.c2 ∷ p.c3 ∷ p.c4 ∷ []) i 0
-
--- what each case of an answer says in the documents' numbers and values
-unfoldable pub emptiness_answer : Emptiness → Answer PointAnswer
-emptiness_answer emptiness.Empty = accepted no_point
-emptiness_answer (emptiness.NotEmpty p) = accepted (point (valuation_of p))
+-- what each case of an answer says in the document's numbers and values
+unfoldable pub emptiness_answer : Emptiness → Answer Bool
+emptiness_answer emptiness.Empty = accepted true
+emptiness_answer emptiness.NotEmpty = accepted false
 emptiness_answer emptiness.BadClocks = refused 31 0
 emptiness_answer (emptiness.BadBound p) = refused 32 p
 

@@ -6,7 +6,7 @@ ghost use Rattle.zone.specs.Cells.{tighter?, tighter_of, sum, negated, negative?
 
 // A bound of the difference of two clocks, at most d time units, or below d if strict: its key is 2 * d, and one more unless it is strict. Keys
 // from FINITE_BELOW up are those of absent bounds.
-#[derive(Drop)]
+#[derive(Clone, Copy)]
 pub struct Bound {
     pub key: i32,
 }

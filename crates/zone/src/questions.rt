@@ -3,21 +3,20 @@ ghost use Rattle.std.specs.Prelude.{◌≡◌, ◌≤◌};
 ghost use Rattle.zone.specs.Reading.{read_zone};
 ghost use Rattle.zone.specs.Questions.{clocks?, AskedEmpty, AskedInside, emptiness_answer, inclusion_answer};
 
-use crate::points::{Earliest, Point};
 use crate::words;
 use crate::zones::Zone;
 
-// Whether a zone is empty at every scale and, where it is not, its earliest point, at scale C + 1; or the refusal.
-#[derive(Drop)]
+// Whether a zone is empty at every scale, or the refusal.
+#[derive(Clone, Copy)]
 pub enum Emptiness {
     Empty,
-    NotEmpty(Point),
+    NotEmpty,
     BadClocks,
     BadBound(usize),
 }
 
 // Whether one zone lies inside another at every scale, or the refusal.
-#[derive(Drop)]
+#[derive(Clone, Copy)]
 pub enum Inclusion {
     Inside,
     NotInside,
@@ -34,7 +33,7 @@ pub fn good_clocks(clocks: u32) -> bool
 }
 
 // The zone of a list of bound words; if one is no good bound, its place and the zone of those before it.
-#[derive(Drop)]
+#[derive(Clone, Copy)]
 pub struct ZoneRead {
     pub good: bool,
     pub place: usize,
@@ -67,7 +66,7 @@ pub fn read_zone(clocks: u32, list: &[u32]) -> ZoneRead
     }
 }
 
-// Is the zone of these bound words, over clocks 1 to `clocks`, empty at every scale? If not, which is its earliest point?
+// Is the zone of these bound words, over clocks 1 to `clocks`, empty at every scale?
 pub fn zone_empty(clocks: u32, list: &[u32]) -> Emptiness
     ensures { AskedEmpty clocks list.now (emptiness_answer result) }
 {
@@ -79,11 +78,10 @@ pub fn zone_empty(clocks: u32, list: &[u32]) -> Emptiness
         return Emptiness::BadBound(read.place);
     }
     let zone = read.zone;
-    let earliest = zone.tighten().earliest(clocks);
-    let Earliest::At(point) = earliest else {
+    if zone.tighten().is_empty() {
         return Emptiness::Empty;
-    };
-    Emptiness::NotEmpty(point)
+    }
+    Emptiness::NotEmpty
 }
 
 // Does the zone of the first list lie inside that of the second, over clocks 1 to `clocks`, at every scale?

@@ -9,7 +9,7 @@ use crate::bounds::Bound;
 // A zone as a square table of bounds, five clocks by five (a difference bound matrix): cell i * 5 + j bounds clock i minus clock j.
 // Clocks that a model does not have get no bounds of their own. `universe` has that no clock is below 0, and so has every zone that the
 // methods make from it.
-#[derive(Drop)]
+#[derive(Clone, Copy)]
 pub struct Zone {
     pub cells: [Bound; 25],
 }

@@ -1,11 +1,10 @@
 //! Compares the judge under test and the plain judge with the independent reading, answers with the
-//! exhaustive player, boards with the law of document 02, card 3, drafts with what its card 5 says of
-//! every draft, and earliest points of zones, of its card 6, with valuations tried one by one.
+//! exhaustive player, boards with the law of document 02, card 3, and drafts with what its card 5 says
+//! of every draft.
 //!
 //! `compare [--program PATH] [--long N]`: exit code 0 if all answers agree and nothing is lacking.
 //! `--long N` does the work N times, each time with other seeds.
-//! `compare --wrong`: exit code 0 if all judges, boards, drafts and points that are wrong on purpose are
-//! caught.
+//! `compare --wrong`: exit code 0 if all judges, boards and drafts that are wrong on purpose are caught.
 
 use std::path::PathBuf;
 use std::process::ExitCode;
@@ -77,7 +76,6 @@ fn compare(settings: &Settings) -> Result<(), Fault> {
     }
     print!("{}", report::comparisons(&run.comparer.tally));
     print!("{}", report::evidence(&run.evidence, &run.comparer.tally));
-    print!("{}", report::earliest(&run.evidence.earliest));
     print!("{}", report::boards(&run.comparer.tally.boards));
     print!("{}", report::drafts(&run.comparer.tally.drafts));
     let lacks = report::lacks(&run.comparer.tally, &run.evidence);
@@ -108,14 +106,6 @@ fn catch_wrong_judges() -> Result<(), Fault> {
     println!("drafts caught in the place of the plain judge's, too: {as_plain}");
     for (name, before) in self_check::draft_flaws_against_law()? {
         println!("card 5 objects to a draft after {before:>5} models: {name}");
-    }
-    for (name, before) in self_check::wrong_points()? {
-        println!("point caught after {before:>5} equal answers: {name}");
-    }
-    let as_plain = self_check::wrong_plain_points()?.len();
-    println!("points caught in the place of the plain judge's, too: {as_plain}");
-    for (name, before) in self_check::point_flaws_against_valuations()? {
-        println!("valuations object to a point after {before:>5} zones: {name}");
     }
     for (name, before) in self_check::flaws_against_player()? {
         println!("the player objects after {before:>5} answers: {name}");

@@ -53,7 +53,7 @@ impl Call {
     /// What a side answers.
     pub fn asked(&self, side: &dyn Side) -> Answer {
         let answer = match self {
-            Call::ZoneEmpty(c, zone) => side.zone_empty(*c, zone).map(Answer::from),
+            Call::ZoneEmpty(c, zone) => side.zone_empty(*c, zone).map(Answer::Empty),
             Call::ZoneInside(c, first, second) => {
                 side.zone_inside(*c, first, second).map(Answer::Inside)
             }
@@ -72,10 +72,7 @@ impl Call {
             Call::Judge(..) => matches!(number, 1..=6 | 11..=21 | 51..=53),
         };
         match answer {
-            Answer::Empty => matches!(self, Call::ZoneEmpty(..)),
-            Answer::NotEmpty(point) => {
-                matches!(self, Call::ZoneEmpty(c, _) if Some(point.scale) == c.checked_add(1))
-            }
+            Answer::Empty(_) => matches!(self, Call::ZoneEmpty(..)),
             Answer::Inside(_) => matches!(self, Call::ZoneInside(..)),
             Answer::Accepted(_) => matches!(self, Call::ReadModel(_) | Call::Judge(..)),
             Answer::Refused(Refusal { number, .. }) => refusal(number),
@@ -173,16 +170,6 @@ mod tests {
         let may = |text| answer(text).is_ok_and(|answer| model.may_answer(&answer));
         assert!(may("ACCEPTED 1 0 0") && may("REFUSED 6 0"));
         assert!(!may("EMPTY") && !may("NOT INSIDE") && !may("REFUSED 11 0"));
-    }
-
-    #[test]
-    fn a_point_has_a_number_for_every_clock() {
-        let zone = |c| Call::ZoneEmpty(c, vec![]);
-        let may = |c, text| answer(text).is_ok_and(|answer| zone(c).may_answer(&answer));
-        assert!(may(1, "NOT EMPTY 5") && may(2, "NOT EMPTY 1 2") && may(2, "EMPTY"));
-        assert!(
-            !may(1, "NOT EMPTY 1 2") && !may(2, "NOT EMPTY 5") && !may(u32::MAX, "NOT EMPTY 5")
-        );
     }
 
     #[test]

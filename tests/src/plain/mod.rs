@@ -61,11 +61,11 @@ pub fn read_model(words: &[u32]) -> Result<Counts, Refusal> {
     })
 }
 
-/// What clocks 1 to 4 read at the zone's earliest point; none if it is empty.
-pub fn zone_empty(clocks: u32, words: &[u32]) -> Result<Option<[u32; 4]>, Refusal> {
+pub fn zone_empty(clocks: u32, words: &[u32]) -> Result<bool, Refusal> {
     demand((1..=4).contains(&clocks), 31, 0)?;
-    let zone = zone_of(clocks, words, 32)?;
-    Ok(zone.earliest(clocks))
+    let mut zone = zone_of(clocks, words, 32)?;
+    zone.tighten(clocks);
+    Ok(zone.is_empty())
 }
 
 pub fn zone_inside(clocks: u32, first: &[u32], second: &[u32]) -> Result<bool, Refusal> {

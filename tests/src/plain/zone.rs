@@ -13,10 +13,6 @@ const KIND: u32 = 5;
 /// The largest constant that a bound's word has room for, and negated the smallest.
 const FARTHEST: i32 = 4_095;
 
-/// A limit beyond all others in parts of a time unit: what is added to it in tightening, at most 32 times
-/// a bound of 5 × 4,095 + 1 parts, leaves it above 0.
-const FAR: i32 = 1 << 28;
-
 /// The word of a bound that nothing meets: clock 1 at most -1.
 pub const NEVER: u32 = 0x5100_0FFF;
 
@@ -104,39 +100,6 @@ impl Zone {
     /// Of a tightened zone.
     pub fn is_empty(&self) -> bool {
         (0..SIZE).any(|clock| self.0[clock][clock] < AT_MOST_0)
-    }
-
-    /// What the clocks read at the earliest point, in (C + 1)-ths of a time unit, those above C at 0; none if
-    /// the zone is empty. Of a zone as words give it, which need not be tightened: in whole parts of a
-    /// unit a strict bound is one that is lower by a part, and tightening is adding. A cycle has at most C + 1
-    /// strict bounds. If its constants add to 1 or more, these do not take it below 0, so that a zone is
-    /// empty at this scale only if it is at all.
-    pub fn earliest(&self, clocks: u32) -> Option<[u32; SIZE - 1]> {
-        let size = clocks as usize + 1;
-        let mut limits = self.in_parts(size as i32);
-        for via in 0..size {
-            let second = limits[via];
-            for (i, row) in limits.iter_mut().enumerate().take(size) {
-                if i == via {
-                    continue;
-                }
-                let first = row[via];
-                for (limit, &second) in row.iter_mut().zip(&second).take(size) {
-                    *limit = (first + second).min(*limit);
-                }
-            }
-        }
-        let below_itself = (0..size).any(|clock| limits[clock][clock] < 0);
-        (!below_itself).then(|| std::array::from_fn(|clock| -limits[0][clock + 1] as u32))
-    }
-
-    /// The bounds in parts of a time unit, none of them strict.
-    fn in_parts(&self, parts: i32) -> [[i32; SIZE]; SIZE] {
-        let in_parts = |bound| match bound {
-            NONE => FAR,
-            _ => (bound >> 1) * parts - (!bound & 1),
-        };
-        self.0.map(|row| row.map(in_parts))
     }
 
     /// Of a tightened zone: the part of it where the bound of a good cut holds, and the rest, each

@@ -1,16 +1,15 @@
 //! An independent reading of document 01, the miss-chance judge, and of document 02: card 1, which
 //! lets a table cut a node in two, card 3, the board of slots, card 4, by which a landing outside an
-//! invariant is a miss, card 5, the drafted table, and card 6, the earliest point of a zone.
+//! invariant is a miss, and card 5, the drafted table.
 //!
 //! This file holds what the calls of "The four calls and their refusals" answer, and the two that
 //! read whole files. Words are parsed into a tree (`words`, `cursor`, `model`, `table`), and the
 //! tree is judged (`zones`, `judging`). `questions` and `program` are the other calls of document
-//! 01, with the point of card 6 in `earliest`; `board` has those of card 3, `draft` that of card 5.
+//! 01, `board` has those of card 3, `draft` that of card 5.
 
 mod board;
 mod cursor;
 mod draft;
-pub mod earliest;
 pub mod judging;
 pub mod model;
 mod program;
@@ -21,7 +20,6 @@ pub mod zones;
 
 pub use board::{rank, submit, Slot};
 pub use draft::draft;
-pub use earliest::Point;
 pub use judging::{judge_table, reach_of_row};
 pub use model::{parse_model, Action, Edge, Location, Model, Start};
 pub use program::program;

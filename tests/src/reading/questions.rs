@@ -1,23 +1,17 @@
 //! The two questions about clock zones.
 //!
 //! Reads "Asking whether a zone is empty" and "Asking whether one zone lies inside another" in "The
-//! four calls and their refusals" of document 01: refusals 31 to 33; and card 6 of document 02, by
-//! which the first question answers a zone's earliest point.
+//! four calls and their refusals" of document 01: refusals 31 to 33.
 
-use super::earliest::Point;
 use super::words::{self, Bound, BOUND, MAX_CLOCKS};
 use super::zones::Zone;
 use super::Refusal;
 
-/// The earliest point of the zone; none if no valuation at any scale meets the bounds.
-pub fn zone_empty(clocks: u32, words: &[u32]) -> Result<Option<Point>, Refusal> {
+/// Whether no valuation at any scale meets the bounds.
+pub fn zone_empty(clocks: u32, words: &[u32]) -> Result<bool, Refusal> {
     let clocks = good_clocks(clocks)?;
     let bounds = good_bounds(clocks, words, 32)?;
-    if Zone::of(clocks, &bounds).is_empty() {
-        return Ok(None);
-    }
-    let point = Point::earliest(clocks, &bounds);
-    Ok(Some(point.expect("card 6: one such always exists")))
+    Ok(Zone::of(clocks, &bounds).is_empty())
 }
 
 /// Whether, at every scale, each valuation of the first zone is in the second.

@@ -9,7 +9,7 @@ returns-2 : tie.Need-returns-2
 returns-2 c =
     let told = c.before.before.before.before in
     let asked = told.before.before.before in
-    draft-written _ _ _ _ _ _ asked.before.before.if1.false
+    draft-written _ _ _ _ told.of-draft.result _ asked.before.before.if1.false
     (record { drafted = asked.draft.ensures.0; certifies = asked.draft.ensures.1 }) told.of-draft.ensures c.before.before.put.ensures
 
 pub miss-chance-draft-spec : {M : Type 1} → statement M

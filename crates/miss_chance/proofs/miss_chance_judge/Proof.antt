@@ -8,11 +8,11 @@ returns-2 : tie.Need-returns-2
 returns-2 c =
     let told = c.before.before.before.before in
     let asked = told.before in
-    written _ _ _ _ _ _ asked.before.if1.false
+    written _ _ _ told.of-verdict.result _ asked.before.if1.false
     (record { judged = asked.judge.ensures.0; exactly = asked.judge.ensures.1.0; bounds = asked.judge.ensures.1.1 })
     told.of-verdict.ensures c.before.before.put.ensures
 
 pub miss-chance-judge-spec : {M : Type 1} → statement M
 miss-chance-judge-spec =
     tie.close
-    (tie.spec (λ c. not_written _ _ _ _ c.if1.true) (λ c κs. search rules) (λ c κs. search rules) (λ c κs. search rules) (λ c. search rules) returns-2)
+    (tie.spec (λ c. not_written _ _ _ c.if1.true) (λ c κs. search rules) (λ c κs. search rules) (λ c κs. search rules) (λ c. search rules) returns-2)

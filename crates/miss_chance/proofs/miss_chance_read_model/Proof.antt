@@ -8,10 +8,10 @@ returns-2 : tie.Need-returns-2
 returns-2 c =
     let told = c.before.before.before.before in
     let asked = told.before in
-    written _ _ _ _ _ _ asked.before.if1.false asked.read-model.ensures told.of-model.ensures
+    written _ _ _ told.of-model.result _ asked.before.if1.false asked.read-model.ensures told.of-model.ensures
     c.before.before.put.ensures
 
 pub miss-chance-read-model-spec : {M : Type 1} → statement M
 miss-chance-read-model-spec =
     tie.close
-    (tie.spec (λ c. not_written _ _ _ _ c.if1.true) (λ c κs. search rules) (λ c κs. search rules) (λ c κs. search rules) (λ c. search rules) returns-2)
+    (tie.spec (λ c. not_written _ _ _ c.if1.true) (λ c κs. search rules) (λ c κs. search rules) (λ c κs. search rules) (λ c. search rules) returns-2)

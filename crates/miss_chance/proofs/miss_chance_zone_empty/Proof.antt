@@ -1,4 +1,4 @@
--- Proof of `miss_chance_zone_empty`: fewer than six words stay as they are, else the first six become the answer of `zone_empty`.
+-- Proof of `miss_chance_zone_empty`: fewer than four words stay as they are, else the first four become the answer of `zone_empty`.
 use borrow.Author.Rules.{rules}
 use Rattle.miss_chance.proofs.ReplyLaws.{not_written, written}
 use Rattle.miss_chance.proofs.miss_chance_zone_empty.Statement.{statement}
@@ -8,10 +8,10 @@ returns-2 : tie.Need-returns-2
 returns-2 c =
     let told = c.before.before.before.before in
     let asked = told.before in
-    written _ _ _ _ _ _ asked.before.if1.false asked.zone-empty.ensures told.of-emptiness.ensures
-    c.before.before.put-point.ensures
+    written _ _ _ told.of-emptiness.result _ asked.before.if1.false asked.zone-empty.ensures told.of-emptiness.ensures
+    c.before.before.put.ensures
 
 pub miss-chance-zone-empty-spec : {M : Type 1} → statement M
 miss-chance-zone-empty-spec =
     tie.close
-    (tie.spec (λ c. not_written _ _ _ _ c.if1.true) (λ c κs. search rules) (λ c κs. search rules) (λ c κs. search rules) (λ c. search rules) returns-2)
+    (tie.spec (λ c. not_written _ _ _ c.if1.true) (λ c κs. search rules) (λ c κs. search rules) (λ c κs. search rules) (λ c. search rules) returns-2)

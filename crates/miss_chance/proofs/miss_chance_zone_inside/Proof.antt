@@ -8,10 +8,10 @@ returns-2 : tie.Need-returns-2
 returns-2 c =
     let told = c.before.before.before.before in
     let asked = told.before in
-    written _ _ _ _ _ _ asked.before.if1.false asked.zone-inside.ensures told.of-inclusion.ensures
+    written _ _ _ told.of-inclusion.result _ asked.before.if1.false asked.zone-inside.ensures told.of-inclusion.ensures
     c.before.before.put.ensures
 
 pub miss-chance-zone-inside-spec : {M : Type 1} → statement M
 miss-chance-zone-inside-spec =
     tie.close
-    (tie.spec (λ c. not_written _ _ _ _ c.if1.true) (λ c κs. search rules) (λ c κs. search rules) (λ c κs. search rules) (λ c. search rules) returns-2)
+    (tie.spec (λ c. not_written _ _ _ c.if1.true) (λ c κs. search rules) (λ c κs. search rules) (λ c κs. search rules) (λ c. search rules) returns-2)

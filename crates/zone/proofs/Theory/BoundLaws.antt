@@ -51,12 +51,11 @@ pub record BoundLaws : Type 1 where
   -- the test of the order
   pub as_tight? : B → B → Bool
   pub as_tight-⊑ : (a b : B) → T (as_tight? a b) → a ⊑ b
-  -- the least reading of a clock such that a clock that reads x minus it is within a. At twice the scale a clock that reads so is also within b
-  -- of one that reads 2y, if a and b allow it of x and y at the scale itself
-  pub least : ℕ → ℕ → B → ℕ
-  pub least-holds : (k x y : ℕ) (a : B) → least k x a ≤ y → Holds k x y a
-  pub holds-least : (k x y : ℕ) (a : B) → Holds k x y a → least k x a ≤ y
-  pub least-meets : (k x y : ℕ) (a b : B) → Holds k x y (a ⊕ b) → Holds (2 * k) 0 (2 * y) b → Holds (2 * k) (least (2 * k) (2 * x) a) (2 * y) b
+  -- at twice the scale, the least reading z of a clock such that a clock that reads 2x minus it is within a. A clock that reads so is also
+  -- within b of one that reads 2y, if a and b allow it of x and y at the scale itself
+  pub low : ℕ → ℕ → B → ℕ
+  pub low-holds : (k x z : ℕ) (a : B) → low k x a ≤ z → Holds (2 * k) (2 * x) z a
+  pub low_meets : (k x y : ℕ) (a b : B) → Holds k x y (a ⊕ b) → Holds (2 * k) 0 (2 * y) b → Holds (2 * k) (low k x a) (2 * y) b
   -- the bound that holds, the other way round, where a given one fails
   pub negation : B → B
   pub negation-fails : (k x y : ℕ) (a b : B) → T (not (as_tight? a b)) → Holds k x y b → Holds k y x (negation b) → ⊥

@@ -36,23 +36,23 @@ most-ge (suc m) f i h = by (most-ge m f i) (N.eq-or-lt_of_le (N.le_of_suc-le-suc
 
 -- the clocks read w at scale k; a i bounds clock i minus the new one, b i the new one minus clock i
 module _ (𝓑 : BoundLaws) (r k : ℕ) (w : ℕ → ℕ) (a b : ℕ → 𝓑.B) where
-  open 𝓑 use {◌⊕◌, Holds, least, least-holds, least-meets, multiply}
+  open 𝓑 use {◌⊕◌, Holds, low, low-holds, low-Meets, multiply}
 
   infixl 70 ◌⊕◌
   -- what the new clock reads, at twice the scale
   unfoldable pub reading : ℕ
-  reading = most r (λ i. least (2 * k) (2 * w i) (a i))
+  reading = most r (λ i. low k (w i) (a i))
 
   pub above : (i : ℕ) → i < r → Holds (2 * k) (2 * w i) reading (a i)
   unfolding reading
-  above i h = least-holds (2 * k) (2 * w i) reading (a i) (most-ge r (λ i. least (2 * k) (2 * w i) (a i)) i h)
+  above i h = low-holds k (w i) reading (a i) (most-ge r (λ i. low k (w i) (a i)) i h)
 
   -- where each lower bound leaves room below each upper bound, and 0 is below each upper bound, the new clock keeps the upper bounds too
   module _ (meets : (i j : ℕ) → i < r → j < r → Holds k (w i) (w j) (a i ⊕ b j)) (room : (j : ℕ) → j < r → Holds k 0 (w j) (b j)) where
     pub below : (j : ℕ) → j < r → Holds (2 * k) reading (2 * w j) (b j)
     unfolding reading
-    below j h = most-cases (λ z. Holds (2 * k) z (2 * w j) (b j)) r (λ i. least (2 * k) (2 * w i) (a i)) room₂
-        (λ i hi. least-meets k (w i) (w j) (a i) (b j) (meets i j hi h) room₂)
+    below j h = most-cases (λ z. Holds (2 * k) z (2 * w j) (b j)) r (λ i. low k (w i) (a i)) room₂
+        (λ i hi. low-Meets k (w i) (w j) (a i) (b j) (meets i j hi h) room₂)
       where
         room₂ : Holds (2 * k) 0 (2 * w j) (b j)
         room₂ = multiply 2 (omega arith) k 0 (w j) (b j) (room j h)

@@ -4,7 +4,6 @@
 mod board;
 mod cuts;
 mod draft;
-mod earliest;
 mod judging;
 mod landings;
 mod model;
@@ -13,7 +12,7 @@ mod table;
 mod worked;
 mod zones;
 
-use super::{judge, read_model, Certificate, Point, Refusal};
+use super::{judge, read_model, Certificate, Refusal};
 
 /// Document 01's timeline: wait at most 3, act from 2 on; 9 in 10 to location 1, 1 in 10 to the
 /// target, location 2.
@@ -34,14 +33,6 @@ fn refused<T>(number: u32, place: usize) -> Result<T, Refusal> {
 
 fn accepted(b: u32, whole: u32, nodes: usize) -> Result<Certificate, Refusal> {
     Ok(Certificate { b, whole, nodes })
-}
-
-/// A zone over C clocks that is not empty, with what they read at its earliest point.
-fn earliest<const C: usize>(readings: [u32; C]) -> Result<Option<Point>, Refusal> {
-    let mut clocks = [0; 4];
-    clocks[..C].copy_from_slice(&readings);
-    let scale = C as u32 + 1;
-    Ok(Some(Point { scale, clocks }))
 }
 
 /// The words with `range` of them replaced.

@@ -12,8 +12,7 @@ use Rattle.zone.proofs.Bools.{false_true}
 use Rattle.board.specs.Deciding.{good_lent?}
 use Rattle.board.proofs.Tests.{first_of, second-of}
 use Rattle.board.proofs.SlotLaws.{still-good}
-use Rattle.zone.proofs.Loops.{same_at}
-use Rattle.board.proofs.RankLaws.{Sofar, begun, one-listed, orders}
+use Rattle.board.proofs.RankLaws.{zero-at, Sofar, begun, one-listed, orders}
 use Rattle.board.proofs.ranking.ordered.Statement.{statement}
 use Rattle.board.proofs.ranking.ordered.Tie as tie
 
@@ -47,7 +46,7 @@ first-requires c κs = c.requires
 loop-holds : tie.Need-loop-init invariant-loop decreases-loop
 loop-holds c = (
   c.before.requires,
-  begun c.before.args.lent.slots _ c.first.result (simp length-map at c.before.well-formed.0.1.1.1.0.1.0.1) refl (λ i. same_at {A = ℕ} 16 i 0) c.first.ensures,
+  begun c.before.args.lent.slots _ c.first.result (simp length-map at c.before.well-formed.0.1.1.1.0.1.0.1) refl (zero-at 16) c.first.ensures,
 )
 
 element-set-from-vacant : tie.Need-element-set-from-vacant invariant-loop decreases-loop

@@ -1,14 +1,12 @@
 -- Proof of `rows_finding`: before each row and successor nothing was found, and judging the rest gives what all rows give.
 use Prim.Native.Nat.{ℕ, ◌+◌, ◌*◌, ◌≤◌, ◌<◌, ◌-◌, ◌^◌}
-use mathlib.Core.Path.{◌≡◌, refl, sym, ◌∙◌}
-use mathlib.Core.Bool.{Bool}
+use mathlib.Core.Path.{refl, sym, ◌∙◌}
 use mathlib.Core.Logic.{⊎_elim}
 use native.Mathlib.Omega.{arith}
 use borrow.Author.Tests.{eqb-true, eqb-false}
 use borrow.Author.Rules.{rules}
 use types.Run.{miss}
 use lib.ListN.{length, get_or}
-use Rattle.zone.specs.Squares.{empty?}
 use Rattle.zone.proofs.Sizes.{tightens-fewer}
 use Rattle.model.specs.Scan.{zone_count}
 use Rattle.model.specs.Index.{Kept as ModelKept, keep as keep_model}
@@ -18,19 +16,19 @@ use Rattle.judge.specs.Walk.{rows_finding}
 use Rattle.judge.specs.declared.findings.Finding.{Finding}
 use Rattle.judge.proofs.FindingLaws.{found}
 use Rattle.judge.proofs.WalkLaws.{fewer-left, product_small, AtRow, ReachAt, AtSuccessor, no_rows, node-rows}
-use Rattle.judge.proofs.WalkLaws.{rows_end, row-asked, row-place, row-reach, row-not-blocked, row-blocked, row-successors}
+use Rattle.judge.proofs.WalkLaws.{rows_end, row-asked, row-place, row-not-blocked, row-blocked, row-successors}
 use Rattle.judge.proofs.WalkLaws.{successor-place, successor-asked, successor-found, successor-next, sum_large, row-end}
 use Rattle.judge.proofs.walk.rows_finding.Statement.{statement}
 use Rattle.judge.proofs.walk.rows_finding.Tie as tie
 
 abbrev invariant-loop : tie.invariant-loop
-invariant-loop list edges guards contained whole nodes zones n node index l first-action stop waited f₀ at₀ a reach blocked empty limit first sum₀ e₀ end f at sum e =
+invariant-loop list edges guards contained whole nodes zones n node index l first-action stop waited f₀ at₀ a reach empty blocked limit first sum₀ e₀ end f at sum e =
     let m : ModelKept = keep_model index edges guards in
     let k : TableKept = keep_table nodes zones in
     AtSuccessor list whole m contained k (rows_finding list whole m contained k n node) waited node.value stop a reach empty limit first end f at sum e
 
 abbrev decreases-loop : tie.decreases-loop
-decreases-loop list edges guards contained whole nodes zones n node index l first-action stop waited f₀ at₀ a reach blocked empty limit first sum₀ e₀ end f at sum e =
+decreases-loop list edges guards contained whole nodes zones n node index l first-action stop waited f₀ at₀ a reach empty blocked limit first sum₀ e₀ end f at sum e =
     end - e
 
 abbrev invariant-rows : tie.invariant-rows
@@ -53,10 +51,10 @@ abbrev row_start : Known tie.At-rows → Known tie.Start
 row_start c = start c.before.before.before.before.before.before.before.before
 
 abbrev row : Known tie.After-kind-of → Known tie.In-rows
-row c = c.before.before.before.before
+row c = c.before.before.before.before.before
 
 abbrev row_kind : Known tie.After-e-end → Known tie.After-kind-of
-row_kind c = c.before.before.before.before.before
+row_kind c = c.before.before.before.before
 
 abbrev loop_start : Known tie.At-loop → Known tie.Start
 loop_start c = row_start (row (row_kind c.before)).before
@@ -101,12 +99,15 @@ row-there : (c : Known tie.In-rows) → c.before.rows.at < length (row_start c.b
 row-there c = row-place _ _ _ _ _ (row_here c.before) (row-taken c)
 
 reach-is :
-    (c : Known tie.After-kind-of) {empty : Bool} → empty ≡ empty? c.before.before.common.result →
+    (c : Known tie.After-kind-of) →
     let r = (row c).before in
     let s = row_start r in
     ReachAt s.args.list.now s.args.whole (model s) s.args.contained (table s) r.before.before.waited.result r.rows.a
-    c.before.before.common.result empty
-reach-is c e = record { reaches = rw (← c.before.before.before.load3.ensures) c.before.before.common.ensures; empties = e }
+    c.before.before.before.common.result c.before.before.is-empty.result
+reach-is c = record {
+  reaches = rw (← c.before.before.before.before.load3.ensures) c.before.before.before.common.ensures;
+  empties = c.before.before.is-empty.ensures;
+}
 
 successor-here :
     (c : Known tie.At-loop) →
@@ -114,7 +115,7 @@ successor-here :
     let r = (row w).before in
     let s = row_start r in
     AtSuccessor s.args.list.now s.args.whole (model s) s.args.contained (table s) (goal s) r.before.before.waited.result
-    s.args.node.value (last_action s) r.rows.a w.before.before.common.result c.before.before.before.before.is-empty.result
+    s.args.node.value (last_action s) r.rows.a w.before.before.before.common.result w.before.before.is-empty.result
     (s.args.t2.denominator * s.args.node.value) r.rows.at (get_or s.args.t2.edges (r.rows.a + 1) 0) c.loop.finding c.loop.at
     c.loop.sum c.loop.e
 successor-here c = c.loop.invariant
@@ -191,23 +192,17 @@ common-requires c κs =
 
 mul-kind-of : tie.Need-overflow-mul-kind-of invariant-loop decreases-loop invariant-rows decreases-rows
 mul-kind-of c =
-    let k = c.before.before in
+    let k = c.before.before.before in
     let p = row-there k in
     let size = (row_start k.before).good.0.1 in
     omega arith
 
 shared-slice-read-kind-of : tie.Need-shared-slice-read-kind-of invariant-loop decreases-loop invariant-rows decreases-rows
-shared-slice-read-kind-of c = row-there c.before.before.before
-
-unattained-requires : tie.Need-unattained-requires invariant-loop decreases-loop invariant-rows decreases-rows
-unattained-requires c κs =
-    let w = c.before in
-    let k = row w in
-    (row-reach _ _ _ _ _ (row_here k.before) (row-taken k) (reach-is w refl), (row_start k.before).pre.stores.clocks)
+shared-slice-read-kind-of c = row-there c.before.before.before.before
 
 add-at-2 : tie.Need-overflow-add-at-2 invariant-loop decreases-loop invariant-rows decreases-rows
 add-at-2 c =
-    let k = row c.before.before.before in
+    let k = row c.before.before in
     let p = row-there k in
     let size = (row_start k.before).good.0.0 in
     omega arith
@@ -216,40 +211,39 @@ denominator-small : (c : Known tie.Start) → c.args.t2.denominator < 2 ^ 32
 denominator-small c = search rules
 
 cast-limit : tie.Need-overflow-cast-limit invariant-loop decreases-loop invariant-rows decreases-rows
-cast-limit c = let d = denominator-small (row_start (row c.before.before).before) in omega arith
+cast-limit c = let d = denominator-small (row_start (row c.before).before) in omega arith
 
 mul-limit : tie.Need-overflow-mul-limit invariant-loop decreases-loop invariant-rows decreases-rows
 mul-limit c =
-    let s = row_start (row c.before.before.before).before in
+    let s = row_start (row c.before.before).before in
     let p = product_small s.args.t2.denominator s.args.node.value (2 ^ 32) (2 ^ 32) (denominator-small s) (search rules) in
     omega arith
 
 element-copy-out-e : tie.Need-element-copy-out-e invariant-loop decreases-loop invariant-rows decreases-rows
-element-copy-out-e c = let few = row_small (row c.before.before.before) in omega arith
+element-copy-out-e c = let few = row_small (row c.before.before) in omega arith
 
 cast-e : tie.Need-overflow-cast-e invariant-loop decreases-loop invariant-rows decreases-rows
 cast-e c =
-    let r = (row c.before.before.before.before).before in
+    let r = (row c.before.before.before).before in
     let few = (row_start r).pre.stores.edges.at r.rows.a in
     omega arith
 
 add-e-end : tie.Need-overflow-add-e-end invariant-loop decreases-loop invariant-rows decreases-rows
-add-e-end c = let few = row_small (row c.before.before.before.before) in omega arith
+add-e-end c = let few = row_small (row c.before.before.before) in omega arith
 
 element-copy-out-e-end : tie.Need-element-copy-out-e-end invariant-loop decreases-loop invariant-rows decreases-rows
-element-copy-out-e-end c = let few = row_small (row c.before.before.before.before) in omega arith
+element-copy-out-e-end c = let few = row_small (row c.before.before.before) in omega arith
 
 cast-e-end : tie.Need-overflow-cast-e-end invariant-loop decreases-loop invariant-rows decreases-rows
 cast-e-end c =
-    let r = (row c.before.before.before.before.before).before in
+    let r = (row c.before.before.before.before).before in
     let few = (row_start r).pre.stores.edges.at (r.rows.a + 1) in
     omega arith
 
 loop-holds : tie.Need-loop-init invariant-loop decreases-loop invariant-rows decreases-rows
 loop-holds c =
-    row-successors _ _ _ _ _ (row_here (row (row_kind c)).before) (row-taken (row (row_kind c)))
-    (reach-is (row_kind c) c.before.before.before.is-empty.ensures)
-    (λ q. eqb-false _ _ c.before.before.before.before.if2.false ((row_kind c).kind-of.ensures ∙ q)) (row_start (row (row_kind c)).before).pre.stores.edges refl
+    row-successors _ _ _ _ _ (row_here (row (row_kind c)).before) (row-taken (row (row_kind c))) (reach-is (row_kind c))
+    (λ q. eqb-false _ _ c.before.before.before.if2.false ((row_kind c).kind-of.ensures ∙ q)) (row_start (row (row_kind c)).before).pre.stores.edges refl
 
 mul-number-of : tie.Need-overflow-mul-number-of invariant-loop decreases-loop invariant-rows decreases-rows
 mul-number-of c =
@@ -319,10 +313,8 @@ rows-again c =
     let k = row w in
     let i = row_here k.before in
     ⊎_elim
-    (λ y.
-    row-blocked _ _ _ _ _ i (row-taken k) (reach-is w y.1.ensures) y.3 y.4 (sym w.kind-of.ensures ∙ eqb-true _ _ y.0.taken)
-    y.2.left)
-    (λ y. row-end _ _ _ _ _ y.5.inv y.6.left y.8 y.9 y.7.left i.tightens i.limit)
+    (λ y. row-blocked _ _ _ _ _ i (row-taken k) (reach-is w) y.2 y.3 (sym w.kind-of.ensures ∙ eqb-true _ _ y.0.taken) y.1.left)
+    (λ y. row-end _ _ _ _ _ y.4.inv y.5.left y.7 y.8 y.6.left i.tightens i.limit)
     c.if2.branch
 
 returns-2 : tie.Need-returns-2 invariant-loop decreases-loop invariant-rows decreases-rows
@@ -330,10 +322,10 @@ returns-2 c = rows_end _ _ _ _ _ (row_here c.before) c.rows-test.false
 
 returns-3 : tie.Need-returns-3 invariant-loop decreases-loop invariant-rows decreases-rows
 returns-3 c =
-    let w = c.before.before.before in
+    let w = c.before.before in
     let k = row w in
-    row-not-blocked _ _ _ _ _ (row_here k.before) (row-taken k) (reach-is w c.before.unattained.ensures)
-    (sym w.kind-of.ensures ∙ eqb-true _ _ c.before.before.if2.true) c.if3.true
+    row-not-blocked _ _ _ _ _ (row_here k.before) (row-taken k) (reach-is w) (sym w.kind-of.ensures ∙ eqb-true _ _ c.before.if2.true)
+    c.if3.true
 
 -- the successor has a finding
 returns-4 : tie.Need-returns-4 invariant-loop decreases-loop invariant-rows decreases-rows
@@ -350,8 +342,8 @@ rows-finding-spec =
     tie.close
     (tie.spec invariant-loop decreases-loop invariant-rows decreases-rows (λ c. search rules)
     element-copy-out-first-action (λ c. search rules) add-end-action element-copy-out-end-action (λ c. search rules) returns load-requires
-    load-requires-2 waited-requires add_at rows-holds (λ c. search rules) load-requires-3 common-requires mul-kind-of
-    shared-slice-read-kind-of (λ c κs. search rules) unattained-requires add-at-2 (λ c κs. search rules) cast-limit (λ c. search rules) mul-limit element-copy-out-e
+    load-requires-2 waited-requires add_at rows-holds (λ c. search rules) load-requires-3 common-requires (λ c κs. search rules) mul-kind-of
+    shared-slice-read-kind-of (λ c κs. search rules) add-at-2 cast-limit (λ c. search rules) mul-limit element-copy-out-e
     cast-e add-e-end element-copy-out-e-end cast-e-end loop-holds mul-number-of shared-slice-read-number-of
     (λ c κs. search rules) cast-s mul-successor shared-slice-read-successor successor-requires (λ c. c.match.keys1) add-sum
     add-at-3 add-e loop-less loop-again add_a rows-less rows-again returns-2 returns-3 returns-4 returns-5)

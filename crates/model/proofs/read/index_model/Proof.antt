@@ -3,10 +3,7 @@ use mathlib.Core.Path.{◌≡◌, refl, sym, ap, subst, ◌∙◌}
 use mathlib.Core.List.{[], ◌∷◌}
 use borrow.Author.Rules.{rules}
 use types.Run.{miss}
-use native.Mathlib.Omega.{arith}
-use Rattle.zone.specs.Squares.{tightened, Tightens}
-use Rattle.zone.proofs.Sizes.{tightens-fewer, tightens-less}
-use Rattle.zone.proofs.EarliestLaws.{none-empty}
+use Rattle.zone.specs.Squares.{tightened}
 use Rattle.model.specs.Scan.{WithinLimits}
 use Rattle.model.specs.Index.{Pass}
 use Rattle.model.specs.declared.seen.Fault.TheVariants as fault
@@ -33,9 +30,8 @@ returns c =
 load-requires : tie.Need-load-requires
 load-requires c κs = let start = (limits c.before.before.before.before.before.before.before.before.before).start in search rules
 
--- the zone that is tightened
-thrice : (c : tie.After-meet) → Tightens 3 c.meet.result
-thrice c =
+tighten-requires : tie.Need-tighten-requires
+tighten-requires c κs =
     let load = c.before.before.before in
     let told = load.before.before.before in
     let scan = told.before.before.before.before.before.before.before in
@@ -43,30 +39,20 @@ thrice c =
     rw c.meet.ensures
     (start-tightens _ _ _ start.requires _ scan.scan.ensures told.enum_told.given.1 load.load.ensures c.before.load2.ensures)
 
-tighten-requires : tie.Need-tighten-requires
-tighten-requires c κs = tightens-fewer 1 3 _ (omega arith) (thrice c)
-
-earliest-requires : tie.Need-earliest-requires
-earliest-requires c κs = (
-  rw c.tighten.ensures (tightens-fewer 1 2 _ (omega arith) (tightens-less 2 _ (omega arith) (thrice c.before))),
-  (limits c.before.before.before.before.before.before.before.before.before.before.before.before.before.before).clocks,
-)
-
 returns-2 : tie.Need-returns-2
 returns-2 c =
-    let found = c.before.before.before in
-    let tighten = found.before in
+    let tighten = c.before.before.before in
     let load = tighten.before.before.before.before in
     let told = load.before.before.before in
     let scan = told.before.before.before.before.before.before.before in
     let start = scan.before.before.before.before.before in
     whole-returned _ _ _ start.requires _ _ scan.scan.ensures refl _ _ _ _ told.enum_told.given.1 load.load.ensures
     tighten.before.before.load2.ensures (tighten.tighten.ensures ∙ ap tightened tighten.before.meet.ensures)
-    c.before.before.missing-of.ensures (c.before.is_none.ensures ∙ none-empty _ _ found.earliest.ensures) c.whole-answer.ensures
+    c.before.before.missing-of.ensures c.before.is-empty.ensures c.whole-answer.ensures
 
 pub index-model-spec : {M : Type 1} → statement M
 index-model-spec =
     tie.close
     (tie.spec (λ c κs. search rules) (λ c. search rules) (λ c κs. search rules) (λ c κs. search rules) (λ c. search rules) (λ c. search rules)
-    returns (λ c. search rules) load-requires (λ c κs. search rules) (λ c κs. search rules) tighten-requires earliest-requires (λ c κs. search rules)
+    returns (λ c. search rules) load-requires (λ c κs. search rules) (λ c κs. search rules) tighten-requires (λ c κs. search rules)
     (λ c κs. search rules) (λ c κs. search rules) (λ c. search rules) (λ c. search rules) returns-2)

@@ -1,12 +1,10 @@
--- Proof of `zone_empty`: the tests before each return select its case of `decide_empty`, which answers as the documents say.
-use mathlib.Core.Path.{◌≡◌, sym, ap, ◌∙◌}
+-- Proof of `zone_empty`: the tests before each return select its case of `decide_empty`, which answers as document 01 says.
+use mathlib.Core.Path.{◌≡◌, sym, ◌∙◌}
 use mathlib.Core.Bool.{true}
 use borrow.Author.Rules.{rules}
 use borrow.Author.Tests.{not-true, not-false}
 use Rattle.zone.specs.Questions.{clocks?}
-use Rattle.zone.specs.Squares.{tightened}
-use Rattle.zone.specs.Points.{earliest_of}
-use Rattle.zone.proofs.Sizes.{read_fits, tightened-fits}
+use Rattle.zone.proofs.Sizes.{read_fits}
 use Rattle.zone.proofs.Decided.{clocks-few, GoodRead, answers-empty, clocks-empty, bad-empty, yes-empty, no-empty}
 use Rattle.zone.proofs.questions.zone_empty.Statement.{statement}
 use Rattle.zone.proofs.questions.zone_empty.Tie as tie
@@ -33,28 +31,19 @@ read c = record { clocks = clocks c.before.before.before; reads = c.before.befor
 tighten-requires : tie.Need-tighten-requires
 tighten-requires c κs = read_fits _ _ _ (read c.before).reads
 
-earliest-requires : tie.Need-earliest-requires
-earliest-requires c κs =
-    let good = read c.before.before in
-    (tightened-fits _ _ _ _ good.reads c.tighten.ensures, clocks-few _ good.clocks)
-
--- what `earliest` answers, for the zone that was read
-found : (c : tie.After-earliest) → c.earliest.result ≡ earliest_of c.before.before.before.before.before.before.before.before.before.args.clocks
-    (tightened c.before.before.before.before.before.read-zone.result.zone)
-found c = c.earliest.ensures ∙ ap (earliest_of _) c.before.tighten.ensures
-
 returns-3 : tie.Need-returns-3
 returns-3 c =
-    let told = c.before.before in
-    answers-empty _ _ _ (yes-empty _ _ (read told.before.before.before) (found told) c.enum_told.given.1)
+    answers-empty _ _ _
+    (yes-empty _ _ (read c.before.before.before.before) c.before.before.tighten.ensures
+    (sym c.before.is-empty.ensures ∙ c.if3.true))
 
 returns-4 : tie.Need-returns-4
 returns-4 c =
-    let told = c.before.before.before in
-    answers-empty _ _ _ (no-empty _ _ (read told.before.before.before) (found told) _ c.before.earliest2.given.1)
+    answers-empty _ _ _
+    (no-empty _ _ (read c.before.before.before.before) c.before.before.tighten.ensures
+    (sym c.before.is-empty.ensures ∙ c.if3.false))
 
 pub zone-empty-spec : {M : Type 1} → statement M
 zone-empty-spec =
     tie.close
-    (tie.spec (λ c κs. search rules) returns read-zone-requires returns-2 tighten-requires earliest-requires (λ c. search rules) (λ c. search rules)
-    returns-3 returns-4)
+    (tie.spec (λ c κs. search rules) returns read-zone-requires returns-2 tighten-requires (λ c κs. search rules) returns-3 returns-4)
