@@ -46,7 +46,7 @@ first-requires c κs = c.requires
 loop-holds : tie.Need-loop-init invariant-loop decreases-loop
 loop-holds c = (
   c.before.requires,
-  begun c.before.args.lent.slots _ c.first.result (simp length-map at c.before.well-formed.0.1.1.1.0.1.0.1) refl (zero-at 16) c.first.ensures,
+  begun c.before.args.lent.slots _ c.first.result (c.before.well_formed.0.1.1.1.0.1.0.1) refl (zero-at 16) c.first.ensures,
 )
 
 element-set-from-vacant : tie.Need-element-set-from-vacant invariant-loop decreases-loop

@@ -19,7 +19,7 @@ abbrev decreases-loop : tie.decreases-loop
 decreases-loop lent good₀ i₀ good i = 16 - i
 
 loop-holds : tie.Need-loop-init invariant-loop decreases-loop
-loop-holds c = (omega arith, (simp length-map at c.well-formed.0.1.1.1.0.1.0.1, refl))
+loop-holds c = (omega arith, (c.well_formed.0.1.1.1.0.1.0.1, refl))
 
 loop-again : tie.Need-loop-preserved invariant-loop decreases-loop
 loop-again c =

@@ -74,7 +74,7 @@ add-t18 : tie.Need-overflow-add-t18
 add-t18 c =
     let reset = c.before.before.before.before.before.before.before.before.before.before.before in
     let r = room reset in
-    let size = (start reset).well-formed in
+    let size = (start reset).well_formed in
     omega arith
 
 returns-2 : tie.Need-returns-2

@@ -51,10 +51,10 @@ returns-2 c =
     target-bad _ _ _ _ _ _ k.before.before.before.load.ensures k.if1.true c.if2.false
 
 add-behind : tie.Need-overflow-add-behind
-add-behind c = let p = there c in let size = (start (loaded c)).well-formed.0.0 in omega arith
+add-behind c = let p = there c in let size = (start (loaded c)).well_formed.0.0 in omega arith
 
 mul-kind-of : tie.Need-overflow-mul-kind-of
-mul-kind-of c = let p = there c in let size = (start (loaded c)).well-formed.0.1 in omega arith
+mul-kind-of c = let p = there c in let size = (start (loaded c)).well_formed.0.1 in omega arith
 
 shared-slice-read-kind-of : tie.Need-shared-slice-read-kind-of
 shared-slice-read-kind-of c = there c.before
