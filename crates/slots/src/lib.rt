@@ -1,6 +1,7 @@
 // The slots of the board, document 02, card 3: a slice of structs that the caller lends. It is read in `load` and written in `put`, and nowhere else;
 // what is decided in between is decided by value.
 #![tactic(auto)]
+
 ghost use Rattle.std.specs.Prelude.{◌<◌, ◌≡◌, set};
 ghost use Rattle.slots.specs.Loading.{started, with_slot, Loads};
 

@@ -88,7 +88,7 @@ returns-2 c =
     let r = room reset in
     successor-coded (keep s.args.index s.args.edges.now s.args.zones.now) _ (edge reset) _ _ _ (landings-are reset) (invariant-is load)
     landed.before.inside.ensures landed.landed.ensures (front-is front) place.place.ensures.0 place.place.ensures.1.1 _
-    c.before.enum_told.given.1 (omega arith) c.code_of_lem.ensures
+    c.before.enum_told.given.1 (omega arith) c.code_of.ensures
 
 pub successor-spec : {M : Type 1} → statement M
 successor-spec =

@@ -20,7 +20,7 @@ returns : tie.Need-returns
 returns c =
     let f = c.before in
     let l = loaded f in
-    first_found _ _ _ _ _ l.load.ensures f.before.before.before.holding-part.ensures f.before.number_of_lem.ensures.0
+    first_found _ _ _ _ _ l.load.ensures f.before.before.before.holding-part.ensures f.before.number_of.ensures.0
     f.part-finding.ensures (λ q. miss found 0 tt (rw q at c.match.keys2))
 
 rest-part-requires : tie.Need-rest-part-requires
@@ -33,7 +33,7 @@ returns-2 c =
     let told = r.before.before in
     let f = told.before.before in
     let l = loaded f in
-    second-found _ _ _ _ _ l.load.ensures f.before.before.before.holding-part.ensures f.before.number_of_lem.ensures.0
+    second-found _ _ _ _ _ l.load.ensures f.before.before.before.holding-part.ensures f.before.number_of.ensures.0
     f.part-finding.ensures told.enum_told.given.1 r.Rest-part.ensures t.number-of2.ensures.0 c.part-finding2.ensures
 
 pub cut-finding-spec : {M : Type 1} → statement M

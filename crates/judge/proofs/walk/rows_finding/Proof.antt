@@ -255,7 +255,7 @@ shared-slice-read-number-of : tie.Need-shared-slice-read-number-of invariant-loo
 shared-slice-read-number-of c = successor-there c.before
 
 cast-s : tie.Need-overflow-cast-s invariant-loop decreases-loop invariant-rows decreases-rows
-cast-s c = let n = c.number_of_lem.ensures.1 in omega arith
+cast-s c = let n = c.number_of.ensures.1 in omega arith
 
 mul-successor : tie.Need-overflow-mul-successor invariant-loop decreases-loop invariant-rows decreases-rows
 mul-successor c = let few = successor-small c.before.before in omega arith
@@ -271,7 +271,7 @@ successor-requires : tie.Need-successor-requires invariant-loop decreases-loop i
 successor-requires c κs =
     let k = c.before.before.before in
     let s = loop_start k.before in
-    let n = c.before.number_of_lem.ensures.1 in
+    let n = c.before.number_of.ensures.1 in
     let room = zones-room s in
     let slots = guards-room s in
     let rows = s.pre.stores.table.nodes in
@@ -298,7 +298,7 @@ loop-less c = fewer-left (successor-taken (turn c))
 
 loop-again : tie.Need-loop-preserved invariant-loop decreases-loop invariant-rows decreases-rows
 loop-again c =
-    successor-next _ _ _ _ _ (successor-here (turn c).before) (successor-taken (turn c)) refl c.before.before.before.before.before.number_of_lem.ensures.0
+    successor-next _ _ _ _ _ (successor-here (turn c).before) (successor-taken (turn c)) refl c.before.before.before.before.before.number_of.ensures.0
     c.before.before.before.successor.ensures.0 c.before.enum_told.given.1 c.before.before.before.successor.ensures.1
 
 add_a : tie.Need-overflow-add-a invariant-loop decreases-loop invariant-rows decreases-rows
@@ -331,7 +331,7 @@ returns-3 c =
 returns-4 : tie.Need-returns-4 invariant-loop decreases-loop invariant-rows decreases-rows
 returns-4 c =
     let k = c.before.before.before.before.before in
-    successor-found _ _ _ _ _ (successor-here k.before) (successor-taken k) refl c.before.before.before.number_of_lem.ensures.0
+    successor-found _ _ _ _ _ (successor-here k.before) (successor-taken k) refl c.before.before.before.number_of.ensures.0
     c.before.successor.ensures.0 (λ q. miss found 0 tt (rw q at c.match.keys2))
 
 returns-5 : tie.Need-returns-5 invariant-loop decreases-loop invariant-rows decreases-rows
