@@ -8,7 +8,7 @@ use crate::seen::Seen;
 
 // The parts of a model, numbered through the file from 0. Location l has the actions from actions[l] up to actions[l + 1], action a the edges
 // from edges[a] up to edges[a + 1]. The words of the edges and the zones of the model stand beside it, in stores that the caller lends.
-#[derive(Drop)]
+#[derive(Clone, Copy)]
 pub struct Index {
     pub clocks: u32,
     pub denominator: u32,

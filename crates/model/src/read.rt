@@ -12,7 +12,7 @@ use zone::words;
 use zone::zones::Zone;
 
 // How many locations, actions and edges a model has.
-#[derive(Drop)]
+#[derive(Clone, Copy)]
 pub struct Counts {
     pub locations: usize,
     pub actions: usize,
@@ -20,7 +20,7 @@ pub struct Counts {
 }
 
 // The counts of a model, or the refusal with its place.
-#[derive(Drop)]
+#[derive(Clone, Copy)]
 pub enum ModelAnswer {
     Accepted(Counts),
     BadModelKind(usize),
@@ -32,7 +32,7 @@ pub enum ModelAnswer {
 }
 
 // The place of the first edge word whose location does not exist.
-#[derive(Drop)]
+#[derive(Clone, Copy)]
 pub(crate) enum Missing {
     At(usize),
     None,
@@ -40,7 +40,7 @@ pub(crate) enum Missing {
 
 // The answer, and beside it what judging needs of an accepted model: its index, and the zone of its start valuations, tightened. Its edge words
 // and zones stand in the lent stores. Of a refused file the index and the stores are what the pass has left.
-#[derive(Drop)]
+#[derive(Clone, Copy)]
 pub struct ModelRead {
     pub answer: ModelAnswer,
     pub index: Index,

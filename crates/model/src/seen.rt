@@ -11,7 +11,7 @@ use crate::{fields, kinds, places};
 use zone::words;
 
 // What the words read so far come to, for the checks of the next word and for the index.
-#[derive(Drop)]
+#[derive(Clone, Copy)]
 pub(crate) struct Seen {
     pub opener: u32, // the kind of the last word that is no bound
     pub clocks: u32, // of the head
@@ -28,7 +28,7 @@ pub(crate) struct Seen {
 }
 
 // The first check that a word fails.
-#[derive(Drop)]
+#[derive(Clone, Copy)]
 pub(crate) enum Fault {
     None,
     Kind,
