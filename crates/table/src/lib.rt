@@ -1,4 +1,6 @@
 // Reading a table against a model: document 01, "Words" for kinds 7 to C, document 02, card 1 for kind D, and refusals 11 to 14.
+#![tactic(auto)]
+
 pub mod fields; // fields.rt: the fields of a table's words
 pub mod nodes; // nodes.rt: what is kept of a node
 mod seen; // seen.rt: what the words read so far come to, and the fault of the next

@@ -6,7 +6,7 @@ use crate::fields;
 
 // What is kept of a node's words: its location, its value, and the index of its value word. Its rows or its cut stand behind that
 // word.
-#[derive(Drop)]
+#[derive(Clone, Copy)]
 pub struct NodeEntry {
     pub location: u32,
     pub value: u32,

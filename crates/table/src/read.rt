@@ -16,7 +16,7 @@ pub const NODE_NUMBERS: usize = 192;
 pub const ZONE_KEYS: usize = 1600;
 
 // Whether the words of a table are good, or the refusal with its place.
-#[derive(Drop)]
+#[derive(Clone, Copy)]
 pub enum TableAnswer {
     Good,
     BadTableKind(usize),
@@ -27,7 +27,7 @@ pub enum TableAnswer {
 
 // The answer, and beside it what judging needs of a table whose words are good: V, how many nodes it has, and the number of the start node with
 // the index of its word. Its nodes and their zones stand in the lent stores. Of other words these are what the pass has left.
-#[derive(Drop)]
+#[derive(Clone, Copy)]
 pub struct TableRead {
     pub answer: TableAnswer,
     pub whole: u32,

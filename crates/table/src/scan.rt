@@ -11,7 +11,7 @@ use zone::zones::Zone;
 use zone::{stores, words};
 
 // What the words come to, up to the first that fails a check or is missing.
-#[derive(Drop)]
+#[derive(Clone, Copy)]
 pub(crate) struct Scanned {
     pub fault: Fault,
     pub place: usize,

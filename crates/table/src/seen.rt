@@ -14,7 +14,7 @@ use model::kinds;
 use zone::words;
 
 // What the words read so far come to, for the checks of the next word and for the nodes.
-#[derive(Drop)]
+#[derive(Clone, Copy)]
 pub(crate) struct Seen {
     pub opener: u32, // the kind of the last word that is no bound
     pub whole: u32, // V, of the head
@@ -30,7 +30,7 @@ pub(crate) struct Seen {
 }
 
 // The first check that a word fails.
-#[derive(Drop)]
+#[derive(Clone, Copy)]
 pub(crate) enum Fault {
     None,
     Kind,
