@@ -11,7 +11,7 @@ use table::nodes::NodeEntry;
 use zone::zones::Zone;
 
 // What a successor comes to: the first of the checks 17 and 18 that it fails, and what its edge adds to the row's sum.
-#[derive(Drop)]
+#[derive(Clone, Copy)]
 pub(crate) struct Outcome {
     pub finding: Finding,
     pub share: u64,

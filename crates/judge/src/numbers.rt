@@ -8,7 +8,7 @@ use crate::verdict::Verdict;
 use acceptance::certificate::Certificate;
 
 // A verdict in the documents' numbers: the number of a refusal and its place, or 0 and what an acceptance gives.
-#[derive(Drop)]
+#[derive(Clone, Copy)]
 pub struct Numbered {
     pub number: u32,
     pub place: usize,

@@ -18,7 +18,7 @@ use table::read::TableAnswer;
 use zone::zones::Zone;
 
 // What an accepted table certifies, or the refusal with its place: 1 to 6 in the model, the others in the table.
-#[derive(Drop)]
+#[derive(Clone, Copy)]
 pub enum Verdict {
     Accepted(Certificate),
     BadModelKind(usize),
