@@ -17,7 +17,7 @@ use model::read::ModelAnswer;
 use model::{places, read as models};
 
 // The length of the draft, or the refusal; those of the model with their place.
-#[derive(Drop)]
+#[derive(Clone, Copy)]
 pub enum DraftAnswer {
     Drafted(usize),
     BadModelKind(usize),

@@ -28,7 +28,7 @@ pub(crate) const BLOCKED: u8 = 255;
 pub(crate) const OUTSIDE: usize = 64;
 
 // How many nodes and codes are found so far, and why exploring is refused, if it is.
-#[derive(Drop)]
+#[derive(Clone, Copy)]
 pub(crate) struct Extent {
     pub stop: Stop,
     pub nodes: usize,

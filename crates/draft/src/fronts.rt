@@ -11,7 +11,7 @@ use zone::zones::Zone;
 pub(crate) const FRONT_WORDS: usize = 26;
 
 // The front words of a node, so many as `size`. Not narrow: a bound lies beyond 4,095 either way, and the words say nothing.
-#[derive(Drop)]
+#[derive(Clone, Copy)]
 pub(crate) struct Front {
     pub narrow: bool,
     pub size: usize,

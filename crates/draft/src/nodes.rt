@@ -16,14 +16,14 @@ pub(crate) const NODE_SLOT: usize = 27;
 pub(crate) const NODE_WORDS: usize = 1728;
 
 // A node that is known, by its number.
-#[derive(Drop)]
+#[derive(Clone, Copy)]
 pub(crate) enum Known {
     At(usize),
     Nothing,
 }
 
 // Why exploring is refused, if it is.
-#[derive(Drop)]
+#[derive(Clone, Copy)]
 pub(crate) enum Stop {
     None,
     Nodes, // a 65th node
@@ -31,7 +31,7 @@ pub(crate) enum Stop {
 }
 
 // The number of a zone's node, and how many nodes there are with it; or why there is none.
-#[derive(Drop)]
+#[derive(Clone, Copy)]
 pub(crate) struct Placed {
     pub stop: Stop,
     pub number: usize,

@@ -7,7 +7,7 @@ ghost use Rattle.draft.specs.Numbers.{numbered};
 use crate::call::DraftAnswer;
 
 // An answer in the documents' numbers: the number of a refusal and its place, or 0 and the length of the draft.
-#[derive(Drop)]
+#[derive(Clone, Copy)]
 pub struct Numbered {
     pub number: u32,
     pub place: usize,

@@ -17,13 +17,13 @@ pub(crate) const WHOLE: u32 = 1_000_000;
 pub(crate) const VALUES: usize = 128;
 
 // The values, by the numbers that codes have.
-#[derive(Drop)]
+#[derive(Clone, Copy)]
 pub(crate) struct Values {
     pub list: [u32; 128],
 }
 
 // The values after a round, and whether one of them has changed in it.
-#[derive(Drop)]
+#[derive(Clone, Copy)]
 pub(crate) struct Rounded {
     pub values: Values,
     pub changed: bool,
