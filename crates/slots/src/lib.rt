@@ -1,11 +1,13 @@
 // The slots of the board, document 02, card 3: a slice of structs that the caller lends. It is read in `load` and written in `put`, and nowhere else;
 // what is decided in between is decided by value.
+#![tactic(auto)]
+
 ghost use Rattle.std.specs.Prelude.{◌<◌, ◌≡◌, set};
 ghost use Rattle.slots.specs.Loading.{started, with_slot, Loads};
 
 // A slot: vacant, or held by a team with a certified fraction b / V.
 #[repr(C)]
-#[derive(Drop)]
+#[derive(Clone, Copy)]
 pub struct Slot {
     pub held: bool,
     pub team: u32,
@@ -14,7 +16,7 @@ pub struct Slot {
 }
 
 // What a caller lends, by value: how many slots and, where these are 16, the slots.
-#[derive(Drop)]
+#[derive(Clone, Copy)]
 pub struct Lent {
     pub count: usize,
     pub slots: [Slot; 16],
