@@ -8,7 +8,7 @@ use slots::{Lent, Slot};
 
 // The ranking: 0 and the numbers of the held slots in rank, as many as `count` says, or a refusal's number and place; zeros behind them.
 #[repr(C)]
-#[derive(Drop)]
+#[derive(Clone, Copy)]
 pub struct Ranking {
     pub number: u32,
     pub place: usize,
@@ -17,7 +17,7 @@ pub struct Ranking {
 }
 
 // A slot with its number, or none.
-#[derive(Drop)]
+#[derive(Clone, Copy)]
 pub struct Pick {
     pub some: bool,
     pub at: usize,

@@ -11,7 +11,7 @@ use slots::{Lent, Slot};
 
 // What a submission names beside its two files.
 #[repr(C)]
-#[derive(Drop)]
+#[derive(Clone, Copy)]
 pub struct Request {
     pub team: u32,
     pub slot: u32,
@@ -19,14 +19,14 @@ pub struct Request {
 
 // What stands beside the slots, handed over and back: how many submissions are left for everybody.
 #[repr(C)]
-#[derive(Drop)]
+#[derive(Clone, Copy)]
 pub struct Ledger {
     pub allowance: u32,
 }
 
 // The answer: a refusal's number and place, or 0 and what an acceptance gives.
 #[repr(C)]
-#[derive(Drop)]
+#[derive(Clone, Copy)]
 pub struct Reply {
     pub number: u32,
     pub place: usize,
@@ -37,14 +37,14 @@ pub struct Reply {
 
 // The answer, and what then stands beside the slots.
 #[repr(C)]
-#[derive(Drop)]
+#[derive(Clone, Copy)]
 pub struct Submitted {
     pub answer: Reply,
     pub ledger: Ledger,
 }
 
 // What a submission comes to, with the slot to write and its place, which is no slot's where nothing is to be written.
-#[derive(Drop)]
+#[derive(Clone, Copy)]
 pub struct Decision {
     pub submitted: Submitted,
     pub at: usize,
