@@ -1,6 +1,8 @@
 // The seven calls for C and Rust. A slice passes as a pointer and then a length. Each of document 01's four, and the draft of document 02, card 5, writes its
 // answer to the first four words of a slice that the caller lends, and returns true; where the slice has fewer than four it writes nothing and returns false.
 // The two of the board, card 3, hand structs over and back by value; they are the board's calls from Rattle too.
+#![tactic(auto)]
+
 mod replies; // replies.rt: each answer as four words
 
 ghost use Rattle.zone.specs.Questions.{AskedEmpty, AskedInside};

@@ -15,7 +15,7 @@ use model::read::ModelAnswer;
 use zone::questions::{Emptiness, Inclusion};
 
 // An answer as four words: the number of a refusal and its place, or 0 and what an acceptance gives. Zeros fill up.
-#[derive(Drop)]
+#[derive(Clone, Copy)]
 pub(crate) struct Reply {
     pub number: u64,
     pub first: u64,
