@@ -1,5 +1,5 @@
 -- What exploring finds, with a value of at most V for each node, can be written; and the table that those words hold. Assumes nothing.
-use Prim.Native.Nat.{ℕ, zero, suc, ◌≤◌, ◌<◌}
+use Prim.Native.Nat.{◌+◌, ℕ, zero, suc, ◌≤◌, ◌<◌}
 use mathlib.Core.Path.{◌≡◌, refl, ap, ◌∙◌}
 use mathlib.Core.List.{List, [], ◌∷◌}
 use native.Mathlib.Nat as N
@@ -13,6 +13,7 @@ use Rattle.model.proofs.WellFormed.{FormedAction, WellFormed}
 use Rattle.table.specs.Table.{Node, no_node, Table, node_at, row_actions, table_of}
 use Rattle.table.specs.Reading.{read_checks}
 use Rattle.acceptance.specs.Acceptance.{Pairwise}
+use Rattle.drafting.specs.Words.{node_words}
 use Rattle.drafting.specs.Exploring.{Found, FoundRow, blocked, to_nodes, no_found}
 use Rattle.drafting.specs.Words.{whole, nodes_words, words_of}
 use Rattle.drafting.proofs.RoundLaws.{Limited}
@@ -30,7 +31,7 @@ module _ (M : Model) (count : ℕ) where
   values-at p (F ∷ Fs) [] rows h n = absurd h
   values-at p (F ∷ Fs) (v ∷ vs) [] h n = absurd h
   values-at p (F ∷ Fs) (v ∷ vs) (rs ∷ rows) h zero = refl
-  values-at p (F ∷ Fs) (v ∷ vs) (rs ∷ rows) h (suc n) = values-at _ Fs vs rows h.1 n
+  values-at p (F ∷ Fs) (v ∷ vs) (rs ∷ rows) h (suc n) = values-at (p + length (node_words F v rs)) Fs vs rows h.1 n
 
   nodes-at : (p : ℕ) (Fs : List Found) (vs : List ℕ) (rows : List (List FoundRow)) → NodesFit M count Fs vs rows → (n : ℕ) → n < length Fs →
       (q : ℕ) × (get_or (nodes_at p Fs vs rows) n no_node ≡ node_at_place q (get_or Fs n no_found) (get_or vs n 0) (get_or rows n []))
@@ -38,7 +39,7 @@ module _ (M : Model) (count : ℕ) where
   nodes-at p (F ∷ Fs) [] rows h n l = absurd h
   nodes-at p (F ∷ Fs) (v ∷ vs) [] h n l = absurd h
   nodes-at p (F ∷ Fs) (v ∷ vs) (rs ∷ rows) h zero l = (p, refl)
-  nodes-at p (F ∷ Fs) (v ∷ vs) (rs ∷ rows) h (suc n) l = nodes-at _ Fs vs rows h.1 n (N.le_of_suc-le-suc l)
+  nodes-at p (F ∷ Fs) (v ∷ vs) (rs ∷ rows) h (suc n) l = nodes-at (p + length (node_words F v rs)) Fs vs rows h.1 n (N.le_of_suc-le-suc l)
 
 -- what holds of pairs holds of those at a place
 pub pairwise_in : {A B : Type 0} (P : A → B → Type 0) (xs : List A) (ys : List B) (d : A) (c : B) (i : ℕ) → Pairwise P xs ys → i < length xs →

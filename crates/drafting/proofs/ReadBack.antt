@@ -87,7 +87,7 @@ pub nodes-count : (M : Model) (count p : ℕ) (Fs : List Found) (vs : List ℕ) 
 nodes-count M count p [] vs rows h = refl
 nodes-count M count p (F ∷ Fs) [] rows h = absurd h
 nodes-count M count p (F ∷ Fs) (v ∷ vs) [] h = absurd h
-nodes-count M count p (F ∷ Fs) (v ∷ vs) (rs ∷ rows) h = ap suc (nodes-count M count _ Fs vs rows h.1)
+nodes-count M count p (F ∷ Fs) (v ∷ vs) (rs ∷ rows) h = ap suc (nodes-count M count (p + length (node_words F v rs)) Fs vs rows h.1)
 
 -- ---- reading back
 module _ (count : ℕ) (few : count ≤ 64) where

@@ -160,6 +160,7 @@ module _ (e : Kept) (f s : Seen) (m : Kept) (w p : ℕ) (P : Parts) (h : WithinL
         start = λ i. o.starts ∙ l.start;
         start_bounds = λ i. o.own refl ∙ ap (with_bounds P.bounds) (universe-put start_bounds_at m.zones (omega arith));
       }
+  describes-with none x3 o d = elim x3 [ ]
 
 -- e is what is kept of the words from here on
 record Ends (e : Kept) (s : Seen) (m : Kept) (p : ℕ) (ws : List ℕ) : Type 0 where

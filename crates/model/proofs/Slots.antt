@@ -32,6 +32,7 @@ same_with action s w p q m (an-action a l) n = put-apart universe (guards_at + s
 same_with edge s w p q m (an-edge a i l) n = refl
 same_with bound s w p q m (a-bound b i j) n = word-apart w s.slot m.zones i j q (n b)
 same_with start s w p q m (a-start a) n = put-apart universe start_bounds_at m.zones q (n refl)
+same_with none s w p q m x'' n = elim x'' [ ]
 
 -- ---- the slot of the opener, where a bound may follow
 pub data Opened (s : Seen) : Type 0 where
@@ -89,6 +90,7 @@ apart_with edge s w p q h (an-edge m i l) n b c = false_true c
 apart_with bound s w p q h (a-bound m i j) n b c = n refl m
 apart_with start s w p q h (a-start m) n (past-location g) c = omega arith
 apart_with start s w p q h (a-start m) n (past-action a g e) c = omega arith
+apart_with none s w p q h x5 n b c = elim x5 [ ]
 
 -- behind a word, a slot that it settles, or that was settled before it
 settled_with :
@@ -143,6 +145,7 @@ module _
     own-with bound (a-bound c i j) f own e =
         let slot = h.slot in own b ∙ ap (with_bounds P.bounds) (word-here w s.slot m.zones i j (omega arith))
     own-with start (a-start n) f own e = kept-own start (a-start n) n (omega arith) f
+    own-with none x4 f own e = elim x4 [ ]
 
 pub own-end :
     (s : Seen) (p : ℕ) (m : Kept) (ws : List ℕ) → Walk s p ws → Opened s → zone_count * 25 ≤ length m.zones → Bounded s →

@@ -76,6 +76,7 @@ module _ (s : Seen) (w p : ℕ) where
   no_bound edge P e (an-edge n m l) ih = ih refl
   no_bound bound P e (a-bound b i j) ih = absurd (never s.opener bound edge b refl e)
   no_bound start P e (a-start n) ih = refl
+  no_bound none P e x3 ih = elim x3 [ ]
 
   no_edge : (k : Kind) (P : Parts) → s.opener ≡ number location → Step s w k →
       ((seen_with_kind k s w p).opener ≡ number location → P.edges ≡ []) → (parts_with k w P).edges ≡ []
@@ -86,6 +87,7 @@ module _ (s : Seen) (w p : ℕ) where
   no_edge edge P e (an-edge n m l) ih = absurd (m e)
   no_edge bound P e (a-bound b i j) ih = ih e
   no_edge start P e (a-start n) ih = refl
+  no_edge none P e x3 ih = elim x3 [ ]
 
 -- an edge is not followed by bounds before the next opener
 pub no-bounds : (s : Seen) (p : ℕ) (ws : List ℕ) → Walk s p ws → s.opener ≡ number edge → (parts_of ws).bounds ≡ []
@@ -118,6 +120,7 @@ last_with s end w p bound P e (a-bound b i j) ih =
     let r = ih e in
     record { edges = r.edges; actions = r.actions; locations = r.locations; start = r.start }
 last_with s end w p start P e (a-start n) ih = absurd (n e)
+last_with s end w p none P e x3 ih = elim x3 [ ]
 
 pub last_of : (s : Seen) (p : ℕ) (ws : List ℕ) → Walk s p ws → s.opener ≡ number start → Last (parts_of ws) s (seen_end s p ws)
 unfolding parts_of seen_end seen_with

@@ -9,12 +9,13 @@ use lib.IntN.{nat_abs}
 use lib.ListN.{get_or, set, replicate}
 use Rattle.zone.specs.Scale.{Bound, Zone, holds?, in?, Region, within}
 use Rattle.zone.specs.Words.{bound_of, bound_fields?}
-use Rattle.zone.specs.Squares.{universe, Tightens}
+use Rattle.zone.specs.Squares.{universe, with_bound, Tightens}
+use Rattle.zone.specs.Reading.{cell_of}
 use Rattle.zone.specs.declared.zones.Zone.{Zone as Square}
 use Rattle.zone.proofs.Bools.{both, and}
 use Rattle.zone.proofs.WordLaws.{first_fits, second_fits, number_small}
 use Rattle.zone.proofs.Sizes.{tightens-universe, tightens-with_bound}
-use Rattle.zone.proofs.Regions.{Stands, in_both, stands_same, stands-universe, stands-with_bound}
+use Rattle.zone.proofs.Regions.{Stands, holding, in_both, stands_same, stands-universe, stands-with_bound}
 use Rattle.model.specs.Indexed.{with_bounds}
 
 -- P holds of every element
@@ -47,11 +48,11 @@ good-word C w h f = record {
 stands_on : {R : Region} {y : Square} (z : Zone) → GoodZone z → Stands R y → Stands (in_both (within z) R) (with_bounds z y)
 unfolding within in? with_bounds
 stands_on [] empty s = stands_same (λ k v r. (tt, r)) (λ k v r. r.1) s
-stands_on (b ∷ z) (more g gs) s =
+stands_on {R = R} (b ∷ z) (more g gs) s =
     stands_same
     (λ k v r. (and (holds? k v b) (in? k v z) r.1.0 r.0, r.1.1))
     (λ k v r. let (p, q) = both (holds? k v b) (in? k v z) r.0 in (q, (p, r.1)))
-    (stands_on z gs (stands-with_bound b g.first g.second g.small s))
+    (stands_on {R = in_both (holding b) R} z gs (stands-with_bound b g.first g.second g.small s))
 
 pub stands-bounds : (z : Zone) → GoodZone z → Stands (within z) (with_bounds z universe)
 unfolding within in?
@@ -60,7 +61,7 @@ stands-bounds z g = stands_same (λ k v r. r.0) (λ k v r. (r, tt)) (stands_on z
 tightens-on : {y : Square} (z : Zone) → GoodZone z → Tightens 3 y → Tightens 3 (with_bounds z y)
 unfolding with_bounds
 tightens-on [] empty s = s
-tightens-on {y} (b ∷ z) (more g gs) s = tightens-on z gs (tightens-with_bound b y g.small s)
+tightens-on {y} (b ∷ z) (more g gs) s = tightens-on {y = with_bound b.i b.j (cell_of b) y} z gs (tightens-with_bound b y g.small s)
 
 pub tightens-bounds : (z : Zone) → GoodZone z → Tightens 3 (with_bounds z universe)
 tightens-bounds z g = tightens-on z g tightens-universe

@@ -66,6 +66,7 @@ module _ (M : Model) (x : Index) (count : ℕ) (end : Kept) (s : Seen) (w p : �
   describes-with successor i (a-successor a) g h d = rw i (rw (in_row x s).nodes at d)
   describes-with start_node i (a-start a) g h d = rw i d
   describes-with cut i (a-cut a) g h d = rw i d
+  describes-with no_kind i x6 g h d = elim x6 [ ]
 
 describes :
     (M : Model) (x : Index) (s : Seen) (kept : Kept) (p : ℕ) (ws : List ℕ) → Walk x s p ws → Good s kept →
@@ -102,6 +103,7 @@ module _ (x : Index) where
       record { begun = λ o. omega (arith, r.opener); first = λ o. absurd (a.not_first o); stays = λ n. r.whole }
   headed-with start_node s w p (a-start a) = record { begun = λ o. omega arith; first = λ o. absurd (a.not_first o); stays = λ n. refl }
   headed-with cut s w p (a-cut a) = record { begun = λ o. omega arith; first = λ o. absurd (a.not_first o); stays = λ n. refl }
+  headed-with no_kind s w p x'' = elim x'' [ ]
 
   whole-stays : (s : Seen) (p : ℕ) (ws : List ℕ) → Walk x s p ws → s.opener ≢ table_number no_kind → (seen_end x s p ws).whole ≡ s.whole
   unfolding seen_end seen_with
@@ -127,6 +129,7 @@ none-follows blocked s w (a-blocked a) o = a.not_last o
 none-follows successor s w (a-successor a) o = a.not_last o
 none-follows start_node s w (a-start a) o = a.not_last o
 none-follows cut s w (a-cut a) o = a.not_last o
+none-follows no_kind s w x'' o = elim x'' [ ]
 
 last-stays : (x : Index) (s : Seen) (p : ℕ) (ws : List ℕ) → Walk x s p ws → s.opener ≡ table_number start_node → seen_end x s p ws ≡ s
 unfolding seen_end
@@ -158,6 +161,7 @@ module _ (x : Index) (s f : Seen) (w p : ℕ) (ws : List ℕ) where
   starts_with start_node i (a-start a) last h =
       record { start = rw i (ap (λ (s : Seen). s.start) (last refl)); place = rw i (ap (λ (s : Seen). s.place) (last refl) ∙ sym (add-zero p)) }
   starts_with cut i (a-cut a) last h = later f w p ws (rw i) (h (λ o. omega arith))
+  starts_with no_kind i x5 last h = elim x5 [ ]
 
 starts : (x : Index) (s : Seen) (p : ℕ) (ws : List ℕ) → Walk x s p ws → s.opener ≢ table_number start_node → Starts (seen_end x s p ws) p ws
 unfolding seen_end seen_with

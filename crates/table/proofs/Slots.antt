@@ -11,7 +11,7 @@ use Rattle.zone.specs.Reading.{with_word}
 use Rattle.zone.specs.Stores.{zone_at}
 use Rattle.zone.specs.declared.zones.Zone.{Zone as Square}
 use Rattle.zone.proofs.StoreLaws.{put-apart, word-here, word-apart}
-use Rattle.model.specs.TableKinds.{TableKind, table_head, node, node_bound, value, blocked, successor, start_node, cut, table_number, table_kind_of}
+use Rattle.model.specs.TableKinds.{TableKind, table_head, node, node_bound, value, blocked, successor, start_node, cut, table_number, table_kind_of, no_kind}
 use Rattle.model.specs.Indexed.{with_bounds}
 use Rattle.model.specs.declared.index.Index.{Index}
 use Rattle.table.specs.Fields.{value_of}
@@ -50,6 +50,7 @@ module _ (x : Index) (s : Seen) (w p : ℕ) (kept : Kept) where
       limit successor (a-successor a) = rw (in_row x s).nodes g.limit
       limit start_node (a-start a) = g.limit
       limit cut (a-cut a) = g.limit
+      limit no_kind x'' = elim x'' [ ]
 
       begun : (k : TableKind) → Step s w k → (seen_with_kind k x s w p).opener ≡ table_number node → 1 ≤ (seen_with_kind k x s w p).nodes
       begun table_head (a-head e) o = absurd (omega arith)
@@ -60,6 +61,7 @@ module _ (x : Index) (s : Seen) (w p : ℕ) (kept : Kept) where
       begun successor (a-successor a) o = absurd (omega (arith, (in_row x s).opener))
       begun start_node (a-start a) o = absurd (omega arith)
       begun cut (a-cut a) o = absurd (omega arith)
+      begun no_kind x3 o = elim x3 [ ]
 
       location : (k : TableKind) → Step s w k → (seen_with_kind k x s w p).location < 16
       location table_head (a-head e) = g.location
@@ -70,6 +72,7 @@ module _ (x : Index) (s : Seen) (w p : ℕ) (kept : Kept) where
       location successor (a-successor a) = rw (in_row x s).location g.location
       location start_node (a-start a) = g.location
       location cut (a-cut a) = g.location
+      location no_kind x'' = elim x'' [ ]
 
 -- ---- no later word changes what is kept of a node whose value was read
 
@@ -95,6 +98,7 @@ module _ (x : Index) (s : Seen) (w p q : ℕ) (kept : Kept) where
       let r = in_row x s in record { below = rw r.nodes h.below; apart = λ o. absurd (omega (arith, r.opener)) }
   settled_with start_node (a-start a) h = record { below = h.below; apart = λ o. absurd (omega arith) }
   settled_with cut (a-cut a) h = record { below = h.below; apart = λ o. absurd (omega arith) }
+  settled_with no_kind x3 h = elim x3 [ ]
 
   same_with : (k : TableKind) → Step s w k → Settled s q → Same q kept (kept_with_kind k s w p kept)
   unfolding kept_with_kind
@@ -112,6 +116,7 @@ module _ (x : Index) (s : Seen) (w p q : ℕ) (kept : Kept) where
   same_with successor (a-successor a) h = record { entry = refl; zone = refl }
   same_with start_node (a-start a) h = record { entry = refl; zone = refl }
   same_with cut (a-cut a) h = record { entry = refl; zone = refl }
+  same_with no_kind x3 h = elim x3 [ ]
 
 module _ (x : Index) where
   settled-end : (s : Seen) (p q : ℕ) (kept : Kept) (ws : List ℕ) → Walk x s p ws → Settled s q → Same q kept (kept_end x s kept p ws)
@@ -181,6 +186,7 @@ module _ (x : Index) (s : Seen) (w p : ℕ) (kept : Kept) (ws : List ℕ) (end :
   kept-with successor n (a-successor a) f h = absurd (a.not-node o)
   kept-with start_node n (a-start a) f h = absurd (a.not-node o)
   kept-with cut n (a-cut a) f h = absurd (a.not-node o)
+  kept-with no_kind n x5 f h = elim x5 [ ]
 
 module _ (x : Index) where
   pub kept-end :

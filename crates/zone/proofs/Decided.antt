@@ -39,7 +39,7 @@ module _ (C : ℕ) (h : C ≤ 4) where
       Stands (in_both (within (zone_of ws)) R) (read_from C ws p z).zone
   unfolding read_from within zone_of in?
   from-stands [] p s e = stands_same (λ k v r. (tt, r)) (λ k v r. r.1) s
-  from-stands {R} (w ∷ ws) p {z} s e = by (good_bound? C w) (word_stands w) (λ s. from-stands ws (suc p) s) e
+  from-stands {R} (w ∷ ws) p {z} s e = by (good_bound? C w) (word_stands w) (λ s. from-stands {R = in_both (holding (bound_of w)) R} ws (suc p) s) e
     where
       by : (c : Bool) → (c ≡ true → Stands R z → Stands (in_both (holding (bound_of w)) R) (with_word w z)) →
           (Stands (in_both (holding (bound_of w)) R) (with_word w z) → (read_from C ws (suc p) (with_word w z)).good ≡ true →

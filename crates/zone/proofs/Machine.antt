@@ -26,10 +26,10 @@ mag-neg (pos (suc n)) h = omega arith
 mag-neg (negsuc n) h = omega arith
 
 pub back32 : (z : ℤ) → mag z < 2 ^ 31 → to_z w32 (of_z w32 z) ≡ z
-back32 z h = to_z-of_z (record { sfits = h })
+back32 z h = to_z-of_z {w = w32} (record { sfits = h })
 
 pub back64 : (z : ℤ) → mag z < 2 ^ 63 → to_z w64 (of_z w64 z) ≡ z
-back64 z h = to_z-of_z (record { sfits = h })
+back64 z h = to_z-of_z {w = w64} (record { sfits = h })
 
 pub wide-cast : (a : ℤ) → mag a < 2 ^ 31 → SFits w64 (to_z w32 (of_z w32 a))
 wide-cast a h = rw (back32 a h) (record { sfits = omega arith })

@@ -36,7 +36,7 @@ most-ge (suc m) f i h = by (most-ge m f i) (N.eq-or-lt_of_le (N.le_of_suc-le-suc
 
 -- the clocks read w at scale k; a i bounds clock i minus the new one, b i the new one minus clock i
 module _ (𝓑 : BoundLaws) (r k : ℕ) (w : ℕ → ℕ) (a b : ℕ → 𝓑.B) where
-  open 𝓑 use {◌⊕◌, Holds, low, low-holds, low-Meets, multiply}
+  open 𝓑 use {◌⊕◌, Holds, low, low-holds, low_meets, multiply}
 
   infixl 70 ◌⊕◌
   -- what the new clock reads, at twice the scale
@@ -52,7 +52,7 @@ module _ (𝓑 : BoundLaws) (r k : ℕ) (w : ℕ → ℕ) (a b : ℕ → 𝓑.B)
     pub below : (j : ℕ) → j < r → Holds (2 * k) reading (2 * w j) (b j)
     unfolding reading
     below j h = most-cases (λ z. Holds (2 * k) z (2 * w j) (b j)) r (λ i. low k (w i) (a i)) room₂
-        (λ i hi. low-Meets k (w i) (w j) (a i) (b j) (meets i j hi h) room₂)
+        (λ i hi. low_meets k (w i) (w j) (a i) (b j) (meets i j hi h) room₂)
       where
         room₂ : Holds (2 * k) 0 (2 * w j) (b j)
         room₂ = multiply 2 (omega arith) k 0 (w j) (b j) (room j h)

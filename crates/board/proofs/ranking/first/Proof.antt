@@ -12,30 +12,29 @@ use Rattle.board.proofs.PickLaws.{none_yet, one_more}
 use Rattle.board.proofs.ranking.first.Statement.{statement}
 use Rattle.board.proofs.ranking.first.Tie as tie
 
-abbrev invariant-loop : tie.invariant-loop
+abbrev invariant-loop : tie.invariant-loop-m
 invariant-loop lent best₀ m₀ best m = (m ≤ 16) × FirstHeld lent.slots m best
 
-abbrev decreases-loop : tie.decreases-loop
+abbrev decreases-loop : tie.decreases-loop-m
 decreases-loop lent best₀ m₀ best m = 16 - m
 
-loop-holds : tie.Need-loop-init invariant-loop decreases-loop
-loop-holds c = (omega arith, none_yet c.before.args.t1.slots)
+loop-holds : tie.Need-loop-m-init invariant-loop decreases-loop
+loop-holds c = (omega arith, none_yet c.args.lent.slots)
 
-loop-again : tie.Need-loop-preserved invariant-loop decreases-loop
+loop-again : tie.Need-loop-m-preserved invariant-loop decreases-loop
 loop-again c =
-    let turn = c.before.before.before.loop in
-    let start = c.before.before.before.before.before in
-    let slots = start.args.t1.slots in
-    let positive = positive_of slots (second-of (eqb start.args.t1.count 16) (all_good? slots) start.requires) in (
+    let turn = c.loop-m in
+    let slots = c.args.lent.slots in
+    let positive = positive_of slots (second-of (eqb c.args.lent.count 16) (all_good? slots) c.requires) in (
       omega arith,
-      subst (FirstHeld slots (turn.m + 1)) (sym c.better.ensures) (one_more slots positive turn.best turn.m (omega arith) turn.invariant.1),
+      subst (FirstHeld slots (turn.m + 1)) (sym c.better-best.ensures) (one_more slots positive turn.best turn.m (omega arith) turn.invariant.1),
     )
 
 returns : tie.Need-returns invariant-loop decreases-loop
 returns c =
-    let turn = c.before.loop in
+    let turn = c.loop-m in
     let e : turn.m ≡ 16 = omega arith in
-    subst (λ k. FirstHeld c.before.before.before.args.t1.slots k turn.best) e turn.invariant.1
+    subst (λ k. FirstHeld c.args.lent.slots k turn.best) e turn.invariant.1
 
 pub first_spec : {M : Type 1} → statement M
 first_spec =

@@ -7,14 +7,14 @@ use Rattle.board.proofs.RankingLaws.{not-ranked, all-ranked}
 use Rattle.board.proofs.ranking.ranked.Statement.{statement}
 use Rattle.board.proofs.ranking.ranked.Tie as tie
 
-good : (c : tie.Else1) → T (good_lent? c.before.before.args.lent)
-good c = yes (good_lent? c.before.before.args.lent) (shown c.before.good-lent.ensures c.if1.false)
+good : (c : tie.Else-not-good_lent) → T (good_lent? c.args.lent)
+good c = yes (good_lent? c.args.lent) (shown c.good_lent.ensures c.if-not-good_lent.false-raw)
 
-returns : tie.Need-returns
-returns c = not-ranked c.before.before.args.lent (shown c.before.good-lent.ensures c.if1.true)
+returns : tie.Need-returns-then-not-good_lent
+returns c = not-ranked c.args.lent (shown c.good_lent.ensures c.if-not-good_lent.true-raw)
 
-returns-2 : tie.Need-returns-2
-returns-2 c = all-ranked c.before.before.before.args.lent c.ordered.result (good c.before) c.ordered.ensures
+returns-2 : tie.Need-returns
+returns-2 c = all-ranked c.args.lent c.ordered.result (good c.before) c.ordered.ensures
 
-pub ranked-spec : {M : Type 1} → statement M
-ranked-spec = tie.close (tie.spec (λ c κs. search rules) returns (λ c κs. good c) returns-2)
+pub ranked_spec : {M : Type 1} → statement M
+ranked_spec = tie.close (tie.spec (λ c κs. search rules) returns (λ c κs. good c) returns-2)

@@ -18,88 +18,78 @@ use Rattle.board.proofs.submissions.decide.Tie as tie
 -- ---- what is known on the way
 
 -- past 54
-abbrev start : tie.Else1 → tie.Start
+abbrev start : tie.Else-not-in_range → tie.Start
 start c = c.before.before.before.before
 
-ranged : (c : tie.Else1) → T (lent_in_range? (start c).args.t1 (start c).args.ledger (start c).args.request)
-ranged c = yes (lent_in_range? (start c).args.t1 (start c).args.ledger (start c).args.request) (shown c.before.in_range.ensures c.if1.false)
+ranged : (c : tie.Else-not-in_range) → T (lent_in_range? c.args.lent c.args.ledger c.args.request)
+ranged c = yes (lent_in_range? c.args.lent c.args.ledger c.args.request) (shown c.in_range.ensures c.if-not-in_range.false-raw)
 
 -- past 55
-abbrev one : tie.Else2 → tie.Else1
+abbrev one : tie.Else-ledger-eq0 → tie.Else-not-in_range
 one c = c.before.before
 
-unspent : (c : tie.Else2) → 0 < (start (one c)).args.ledger.allowance
-unspent c = omega (arith, c.if2.false)
+unspent : (c : tie.Else-ledger-eq0) → 0 < c.args.ledger.allowance
+unspent c = omega (arith, c.if-ledger-eq0.false)
 
 -- past 56
-abbrev two : tie.Else3 → tie.Else2
+abbrev two : tie.Else-not-may_write → tie.Else-ledger-eq0
 two c = c.before.before.before.before
 
-abbrev on : tie.Else3 → tie.Else1
+abbrev on : tie.Else-not-may_write → tie.Else-not-in_range
 on c = one (two c)
 
-may : (c : tie.Else3) → T (may_write? (start (on c)).args.request.team (slot_at (start (on c)).args.t1.slots (start (on c)).args.request.slot))
+may : (c : tie.Else-not-may_write) → T (may_write? c.args.request.team (slot_at c.args.lent.slots c.args.request.slot))
 may c =
-    yes (may_write? (start (on c)).args.request.team (slot_at (start (on c)).args.t1.slots (start (on c)).args.request.slot))
-    (shown c.before.may_write_lem.ensures c.if3.false)
+    yes (may_write? c.args.request.team (slot_at c.args.lent.slots c.args.request.slot))
+    (shown c.may_write.ensures c.if-not-may_write.false-raw)
 
 -- ---- the returns
 
-returns : tie.Need-returns
+returns : tie.Need-returns-then-not-in_range
 returns c =
-    let a = c.before.before.before.before.before.args in
-    out_of_range a.t1 a.ledger a.request a.model.now a.table.now _ (shown c.before.before.in_range.ensures c.before.if1.true)
+    out_of_range c.args.lent c.args.ledger c.args.request c.args.model.now c.args.table.now _ (shown c.in_range.ensures c.if-not-in_range.true-raw)
     c.declined.ensures
 
-returns-2 : tie.Need-returns-2
+returns-2 : tie.Need-returns-then-ledger-eq0
 returns-2 c =
-    let e = c.before.before.before in
-    let a = (start e).args in
-    spent-out a.t1 a.ledger a.request a.model.now a.table.now (ranged e) _ c.before.if2.true c.declined2.ensures
+    spent-out c.args.lent c.args.ledger c.args.request c.args.model.now c.args.table.now (ranged c.before.before.before) _ c.if-ledger-eq0.true c.declined-then-ledger-eq0.ensures
 
-element-copy-out-named : tie.Need-element-copy-out-named
+element-copy-out-named : tie.Need-bounds-lent-at
 element-copy-out-named c =
-    let a = (start (one c.before)).args in
-    slot-there a.t1 a.ledger a.request a.model.now a.table.now (ranged (one c.before))
+    slot-there c.args.lent c.args.ledger c.args.request c.args.model.now c.args.table.now (ranged (one c.before))
 
-returns-3 : tie.Need-returns-3
+returns-3 : tie.Need-returns-then-not-may_write
 returns-3 c =
-    let e = c.before.before.before.before.before in
-    let a = (start (one e)).args in
-    held-by-other a.t1 a.ledger a.request a.model.now a.table.now (ranged (one e)) (unspent e) _
-    (shown c.before.before.may_write_lem.ensures c.before.if3.true) c.declined3.ensures
+    held-by-other c.args.lent c.args.ledger c.args.request c.args.model.now c.args.table.now (ranged (one c.before.before.before.before.before)) (unspent c.before.before.before.before.before) _
+    (shown c.may_write.ensures c.if-not-may_write.true-raw) c.declined-then-not-may_write.ensures
 
-spent-requires : tie.Need-spent-requires
+spent-requires : tie.Need-spent-left-requires
 spent-requires c κs = unspent (two c)
 
-returns-4 : tie.Need-returns-4
+returns-4 : tie.Need-returns-then-judged-ne0
 returns-4 c =
-    let e = c.before.before.before.before.before.before in
-    let a = (start (on e)).args in
-    let v = c.before.before.before.in-numbers in
-    let j = c.before.before.before.before.judge in
+    let v = c.in_numbers-judged in
+    let j = c.judge in
     let said = says j.result v.ensures in
-    judge_refuses a.t1 a.ledger a.request a.model.now a.table.now (ranged (on e)) (unspent (two e)) (may e) v.result
-    (subst (Judged a.model.now a.table.now) (sym said) j.ensures.0)
-    (subst (BoundsSchedulers a.model.now) (sym said) j.ensures.1.1) _ c.before.if4.true
-    (subst (λ (l : Ledger). Declines v.result.number v.result.place l c.declined4.result)
-    c.before.before.before.before.before.spent.ensures c.declined4.ensures)
+    judge_refuses c.args.lent c.args.ledger c.args.request c.args.model.now c.args.table.now (ranged (on c.before.before.before.before.before.before)) (unspent (two c.before.before.before.before.before.before)) (may c.before.before.before.before.before.before) v.result
+    (subst (Judged c.args.model.now c.args.table.now) (sym said) j.ensures.0)
+    (subst (BoundsSchedulers c.args.model.now) (sym said) j.ensures.1.1) _ c.if-judged-ne0.true
+    (subst (λ (l : Ledger). Declines v.result.number v.result.place l c.declined-then-judged-ne0.result)
+    c.spent-left.ensures c.declined-then-judged-ne0.ensures)
 
-returns-5 : tie.Need-returns-5
+returns-5 : tie.Need-returns
 returns-5 c =
-    let e = c.before.before.before.before.before.before.before in
-    let a = (start (on e)).args in
-    let v = c.before.before.before.before.in-numbers in
-    let j = c.before.before.before.before.before.judge in
+    let v = c.in_numbers-judged in
+    let j = c.judge in
     let said = says j.result v.ensures in
-    judge_accepts a.t1 a.ledger a.request a.model.now a.table.now (ranged (on e)) (unspent (two e)) (may e) v.result
-    (subst (Judged a.model.now a.table.now) (sym said) j.ensures.0)
-    (subst (BoundsSchedulers a.model.now) (sym said) j.ensures.1.1) _ c.before.before.if4.false
-    (subst (λ (l : Ledger). Grants a.request v.result.certificate l c.granted.result)
-    c.before.before.before.before.before.before.spent.ensures c.granted.ensures)
+    judge_accepts c.args.lent c.args.ledger c.args.request c.args.model.now c.args.table.now (ranged (on c.before.before.before.before.before.before.before)) (unspent (two c.before.before.before.before.before.before.before)) (may c.before.before.before.before.before.before.before) v.result
+    (subst (Judged c.args.model.now c.args.table.now) (sym said) j.ensures.0)
+    (subst (BoundsSchedulers c.args.model.now) (sym said) j.ensures.1.1) _ c.if-judged-ne0.false
+    (subst (λ (l : Ledger). Grants c.args.request v.result.certificate l c.granted.result)
+    c.spent-left.ensures c.granted.ensures)
 
-pub decide-spec : {M : Type 1} → statement M
-decide-spec =
+pub decide_spec : {M : Type 1} → statement M
+decide_spec =
     tie.close
     (tie.spec
     (λ c κs. search rules)

@@ -5,9 +5,9 @@ use Rattle.board.proofs.submissions.in_range.Tie as tie
 
 returns : tie.Need-returns
 returns c =
-    let e = c.before.before.before.good-lent.ensures in
-    let f = c.before.before.good-ledger.ensures in
+    let e = c.good_lent.ensures in
+    let f = c.good_ledger.ensures in
     cc
 
-pub in-range-spec : {M : Type 1} → statement M
-in-range-spec = tie.close (tie.spec (λ c κs. search rules) (λ c κs. search rules) returns)
+pub in_range_spec : {M : Type 1} → statement M
+in_range_spec = tie.close (tie.spec (λ c κs. search rules) (λ c κs. search rules) returns)

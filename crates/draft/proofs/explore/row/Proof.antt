@@ -29,7 +29,7 @@ slice-write-codes : tie.Need-slice-write-codes
 slice-write-codes c = let r = (start (loaded c.before)).requires.4.room in omega arith
 
 add-t16 : tie.Need-overflow-add-t16
-add-t16 c = let r = (start (loaded c.before)).requires.4.room in let size = (start (loaded c.before)).well-formed in omega arith
+add-t16 c = let r = (start (loaded c.before)).requires.4.room in let size = (start (loaded c.before)).well_formed in omega arith
 
 returns : tie.Need-returns
 returns c =

@@ -74,7 +74,7 @@ add-t18 : tie.Need-overflow-add-t18
 add-t18 c =
     let reset = c.before.before.before.before.before.before.before.before.before.before.before in
     let r = room reset in
-    let size = (start reset).well-formed in
+    let size = (start reset).well_formed in
     omega arith
 
 returns-2 : tie.Need-returns-2
@@ -88,7 +88,7 @@ returns-2 c =
     let r = room reset in
     successor-coded (keep s.args.index s.args.edges.now s.args.zones.now) _ (edge reset) _ _ _ (landings-are reset) (invariant-is load)
     landed.before.inside.ensures landed.landed.ensures (front-is front) place.place.ensures.0 place.place.ensures.1.1 _
-    c.before.enum_told.given.1 (omega arith) c.code_of_lem.ensures
+    c.before.enum_told.given.1 (omega arith) c.code_of.ensures
 
 pub successor-spec : {M : Type 1} → statement M
 successor-spec =

@@ -12,7 +12,7 @@ use Rattle.draft.proofs.nodes.place.Tie as tie
 
 fits : (c : tie.Start) → c.args.front.size ≤ length c.args.front.list
 fits c =
-    let e : length c.args.front.list ≡ 26 = simp length-map at c.well-formed.1.1.0.1.1.1.1.0.1.0.1 in
+    let e : length c.args.front.list ≡ 26 = c.well_formed.1.1.0.1.1.1.1.0.1.0.1 in
     let r = c.requires.1.room in
     omega arith
 

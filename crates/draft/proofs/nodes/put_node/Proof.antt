@@ -18,7 +18,7 @@ kept : (c : tie.At-loop invariant-loop decreases-loop) → length c.loop.nodes �
 kept c = put-length c.before.args.nodes.now c.before.args.count c.before.args.t3.size c.loop.invariant.1
 
 words : (c : tie.Start invariant-loop decreases-loop) → length c.args.t3.list ≡ 26
-words c = simp length-map at c.well-formed.1.1.0.1.1.1.1.0.1.0.1
+words c = c.well_formed.1.1.0.1.1.1.1.0.1.0.1
 
 loop-holds : tie.Need-loop-init invariant-loop decreases-loop
 loop-holds c = (omega arith, put-none _ _ _)

@@ -1,4 +1,4 @@
--- Proof of `row_word_lem`: by whether the code is that of an A word.
+-- Proof of `row_word`: by whether the code is that of an A word.
 use mathlib.Core.Path.{refl}
 use borrow.Author.Rules.{rules}
 use borrow.Author.Tests.{ne_eqb}

@@ -6,38 +6,31 @@ use Rattle.judge.proofs.PartLaws.{first_found, second-found}
 use Rattle.judge.proofs.cutting.cut_finding.Statement.{statement}
 use Rattle.judge.proofs.cutting.cut_finding.Tie as tie
 
-abbrev start : tie.After-load → tie.Start
+abbrev start : tie.After-load-zone → tie.Start
 start c = c.before.before.before
 
 -- where the first part has been judged
-abbrev loaded : tie.After-part-finding → tie.After-load
+abbrev loaded : tie.After-part_finding-finding → tie.After-load-zone
 loaded c = c.before.before.before.before.before
 
-holding-part-requires : tie.Need-holding-part-requires
-holding-part-requires c κs = rw c.before.load.ensures (start c.before).requires.cuts
+holding-part-requires : tie.Need-holding_part-holding-requires
+holding-part-requires c κs = rw c.load-zone.ensures c.requires.cuts
 
-returns : tie.Need-returns
+returns : tie.Need-returns-in_default
 returns c =
-    let f = c.before in
-    let l = loaded f in
-    first_found _ _ _ _ _ l.load.ensures f.before.before.before.holding-part.ensures f.before.number_of_lem.ensures.0
-    f.part-finding.ensures (λ q. miss found 0 tt (rw q at c.match.keys2))
+    first_found _ _ _ _ _ c.load-zone.ensures c.holding_part-holding.ensures c.number_of-first.ensures.0
+    c.part_finding-finding.ensures (λ q. miss found 0 tt (rw q at c.in_default.in_default-own.keys2))
 
-rest-part-requires : tie.Need-rest-part-requires
-rest-part-requires c κs = let l = loaded c.before.before.before in rw l.load.ensures (start l).pre.cuts
+rest-part-requires : tie.Need-rest_part-rest-requires
+rest-part-requires c κs = rw c.load-zone.ensures c.requires.cuts
 
-returns-2 : tie.Need-returns-2
+returns-2 : tie.Need-returns
 returns-2 c =
-    let t = c.before in
-    let r = t.before.before in
-    let told = r.before.before in
-    let f = told.before.before in
-    let l = loaded f in
-    second-found _ _ _ _ _ l.load.ensures f.before.before.before.holding-part.ensures f.before.number_of_lem.ensures.0
-    f.part-finding.ensures told.enum_told.given.1 r.Rest-part.ensures t.number-of2.ensures.0 c.part-finding2.ensures
+    second-found _ _ _ _ _ c.load-zone.ensures c.holding_part-holding.ensures c.number_of-first.ensures.0
+    c.part_finding-finding.ensures c.in-None.is c.rest_part-rest.ensures c.number_of-second.ensures.0 c.part_finding.ensures
 
-pub cut-finding-spec : {M : Type 1} → statement M
-cut-finding-spec =
+pub cut_finding_spec : {M : Type 1} → statement M
+cut_finding_spec =
     tie.close
     (tie.spec (λ c κs. search rules) (λ c. search rules) (λ c. search rules) holding-part-requires (λ c. search rules) (λ c. search rules)
     (λ c. search rules) (λ c κs. search rules) (λ c. search rules) (λ c. search rules) (λ c κs. search rules) (λ c. search rules) returns

@@ -6,44 +6,33 @@ use Rattle.judge.proofs.PartLaws.{not-above, mismatched, part-empty, part-inside
 use Rattle.judge.proofs.cutting.part_finding.Statement.{statement}
 use Rattle.judge.proofs.cutting.part_finding.Tie as tie
 
-returns : tie.Need-returns
-returns c = not-above _ _ _ _ _ _ (omega (arith, c.if1.true))
+returns : tie.Need-returns-then-s-n
+returns c = not-above _ _ _ _ _ _ (omega (arith, c.if-s-n.true))
 
 -- the successor's entry
-abbrev loaded : tie.After-struct-known4 → tie.After-load
+abbrev loaded : tie.After-struct_known-4-1 → tie.After-load-successor
 loaded c = c.before.before.before.before
 
-returns-2 : tie.Need-returns-2
+returns-2 : tie.Need-returns-then-not-matching
 returns-2 c =
-    let s = loaded c.before in
-    mismatched _ _ _ _ _ _ s.before.if1.left s.load.ensures c.if2.true
+    mismatched _ _ _ _ _ _ c.if-s-n.false c.load-successor.ensures c.if-not-matching.true-raw
 
-returns-3 : tie.Need-returns-3
+returns-3 : tie.Need-returns-then-is_empty
 returns-3 c =
-    let e = c.before in
-    let s = loaded e.before.before in
-    part-empty _ _ _ _ _ _ s.before.if1.left s.load.ensures e.before.if2.false (sym e.is-empty.ensures ∙ c.if3.true)
+    part-empty _ _ _ _ _ _ c.if-s-n.false c.load-successor.ensures c.if-not-matching.false-raw (sym c.is_empty.ensures ∙ c.if-is_empty.true)
 
-returns-4 : tie.Need-returns-4
+returns-4 : tie.Need-returns-then-inside
 returns-4 c =
-    let i = c.before in
-    let z = i.before in
-    let e = z.before.before in
-    let s = loaded e.before.before in
-    part-inside _ _ _ _ _ _ s.before.if1.left s.load.ensures e.before.if2.false (sym e.is-empty.ensures ∙ z.before.if3.false)
-    z.load2.ensures (sym i.inside.ensures ∙ c.if4.true)
+    part-inside _ _ _ _ _ _ c.if-s-n.false c.load-successor.ensures c.if-not-matching.false-raw (sym c.is_empty.ensures ∙ c.if-is_empty.false)
+    c.load.ensures (sym c.inside.ensures ∙ c.if-inside.true)
 
-returns-5 : tie.Need-returns-5
+returns-5 : tie.Need-returns
 returns-5 c =
-    let i = c.before in
-    let z = i.before in
-    let e = z.before.before in
-    let s = loaded e.before.before in
-    part-outside _ _ _ _ _ _ s.before.if1.left s.load.ensures e.before.if2.false (sym e.is-empty.ensures ∙ z.before.if3.false)
-    z.load2.ensures (sym i.inside.ensures ∙ c.if4.false)
+    part-outside _ _ _ _ _ _ c.if-s-n.false c.load-successor.ensures c.if-not-matching.false-raw (sym c.is_empty.ensures ∙ c.if-is_empty.false)
+    c.load.ensures (sym c.inside.ensures ∙ c.if-inside.false)
 
-pub part-finding-spec : {M : Type 1} → statement M
-part-finding-spec =
+pub part_finding_spec : {M : Type 1} → statement M
+part_finding_spec =
     tie.close
     (tie.spec returns (λ c κs. search rules) returns-2 (λ c κs. search rules) returns-3 (λ c κs. search rules) (λ c κs. search rules)
     returns-4 returns-5)

@@ -8,5 +8,5 @@ returns : tie.Need-returns
 unfolding added
 returns c = (rw c.share.ensures.0, c.share.ensures.1)
 
-pub adds-spec : {M : Type 1} → statement M
-adds-spec = tie.close (tie.spec (λ c κs. search rules) returns)
+pub adds_spec : {M : Type 1} → statement M
+adds_spec = tie.close (tie.spec (λ c κs. search rules) returns)

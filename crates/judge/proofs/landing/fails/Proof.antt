@@ -9,5 +9,5 @@ returns : tie.Need-returns
 unfolding failed
 returns c = (refl, omega arith)
 
-pub fails-spec : {M : Type 1} → statement M
-fails-spec = tie.close (tie.spec returns)
+pub fails_spec : {M : Type 1} → statement M
+fails_spec = tie.close (tie.spec returns)

@@ -6,92 +6,92 @@ use Rattle.judge.specs.Numbers.{numbered}
 use Rattle.judge.proofs.numbers.in_numbers.Statement.{statement}
 use Rattle.judge.proofs.numbers.in_numbers.Tie as tie
 
-returns : tie.Need-returns
+returns : tie.Need-returns-in-Accepted
 unfolding numbered verdict_answer
-returns c = rw c.before.verdict.given.1
+returns c = rw c.in-Accepted.is
 
-returns-2 : tie.Need-returns-2
+returns-2 : tie.Need-returns-in-BadModelKind
 unfolding verdict_answer
-returns-2 c = c.refusal.ensures ∙ rw c.before.before.verdict2.given.1
+returns-2 c = c.refusal.ensures ∙ rw c.in-BadModelKind.is
 
-returns-3 : tie.Need-returns-3
+returns-3 : tie.Need-returns-in-BadModelField
 unfolding verdict_answer
-returns-3 c = c.refusal2.ensures ∙ rw c.before.before.verdict3.given.1
+returns-3 c = c.refusal-in-BadModelField.ensures ∙ rw c.in-BadModelField.is
 
-returns-4 : tie.Need-returns-4
+returns-4 : tie.Need-returns-in-OverModelLimit
 unfolding verdict_answer
-returns-4 c = c.refusal3.ensures ∙ rw c.before.before.verdict4.given.1
+returns-4 c = c.refusal-in-OverModelLimit.ensures ∙ rw c.in-OverModelLimit.is
 
-returns-5 : tie.Need-returns-5
+returns-5 : tie.Need-returns-in-BadWeights
 unfolding verdict_answer
-returns-5 c = c.refusal4.ensures ∙ rw c.before.before.verdict5.given.1
+returns-5 c = c.refusal-in-BadWeights.ensures ∙ rw c.in-BadWeights.is
 
-returns-6 : tie.Need-returns-6
+returns-6 : tie.Need-returns-in-NoLocation
 unfolding verdict_answer
-returns-6 c = c.refusal5.ensures ∙ rw c.before.before.verdict6.given.1
+returns-6 c = c.refusal-in-NoLocation.ensures ∙ rw c.in-NoLocation.is
 
-returns-7 : tie.Need-returns-7
+returns-7 : tie.Need-returns-in-NoStart
 unfolding verdict_answer
-returns-7 c = c.refusal6.ensures ∙ rw c.before.before.verdict7.given.1
+returns-7 c = c.refusal-in-NoStart.ensures ∙ rw c.in-NoStart.is
 
-returns-8 : tie.Need-returns-8
+returns-8 : tie.Need-returns-in-BadTableKind
 unfolding verdict_answer
-returns-8 c = c.refusal7.ensures ∙ rw c.before.before.verdict8.given.1
+returns-8 c = c.refusal-in-BadTableKind.ensures ∙ rw c.in-BadTableKind.is
 
-returns-9 : tie.Need-returns-9
+returns-9 : tie.Need-returns-in-BadTableField
 unfolding verdict_answer
-returns-9 c = c.refusal8.ensures ∙ rw c.before.before.verdict9.given.1
+returns-9 c = c.refusal-in-BadTableField.ensures ∙ rw c.in-BadTableField.is
 
-returns-10 : tie.Need-returns-10
+returns-10 : tie.Need-returns-in-OverTableLimit
 unfolding verdict_answer
-returns-10 c = c.refusal9.ensures ∙ rw c.before.before.verdict10.given.1
+returns-10 c = c.refusal-in-OverTableLimit.ensures ∙ rw c.in-OverTableLimit.is
 
-returns-11 : tie.Need-returns-11
+returns-11 : tie.Need-returns-in-NoNode
 unfolding verdict_answer
-returns-11 c = c.refusal10.ensures ∙ rw c.before.before.verdict11.given.1
+returns-11 c = c.refusal-in-NoNode.ensures ∙ rw c.in-NoNode.is
 
-returns-12 : tie.Need-returns-12
+returns-12 : tie.Need-returns-in-BadTargetValue
 unfolding verdict_answer
-returns-12 c = c.refusal11.ensures ∙ rw c.before.before.verdict12.given.1
+returns-12 c = c.refusal-in-BadTargetValue.ensures ∙ rw c.in-BadTargetValue.is
 
-returns-13 : tie.Need-returns-13
+returns-13 : tie.Need-returns-in-NotBlocked
 unfolding verdict_answer
-returns-13 c = c.refusal12.ensures ∙ rw c.before.before.verdict13.given.1
+returns-13 c = c.refusal-in-NotBlocked.ensures ∙ rw c.in-NotBlocked.is
 
-returns-14 : tie.Need-returns-14
+returns-14 : tie.Need-returns-in-WrongLocation
 unfolding verdict_answer
-returns-14 c = c.refusal13.ensures ∙ rw c.before.before.verdict14.given.1
+returns-14 c = c.refusal-in-WrongLocation.ensures ∙ rw c.in-WrongLocation.is
 
-returns-15 : tie.Need-returns-15
+returns-15 : tie.Need-returns-in-NotInside
 unfolding verdict_answer
-returns-15 c = c.refusal14.ensures ∙ rw c.before.before.verdict15.given.1
+returns-15 c = c.refusal-in-NotInside.ensures ∙ rw c.in-NotInside.is
 
-returns-16 : tie.Need-returns-16
+returns-16 : tie.Need-returns-in-SumTooLarge
 unfolding verdict_answer
-returns-16 c = c.refusal15.ensures ∙ rw c.before.before.verdict16.given.1
+returns-16 c = c.refusal-in-SumTooLarge.ensures ∙ rw c.in-SumTooLarge.is
 
-returns-17 : tie.Need-returns-17
+returns-17 : tie.Need-returns-in-WrongStart
 unfolding verdict_answer
-returns-17 c = c.refusal16.ensures ∙ rw c.before.before.verdict17.given.1
+returns-17 c = c.refusal-in-WrongStart.ensures ∙ rw c.in-WrongStart.is
 
-returns-18 : tie.Need-returns-18
+returns-18 : tie.Need-returns-in-StartNotInside
 unfolding verdict_answer
-returns-18 c = c.refusal17.ensures ∙ rw c.before.before.verdict18.given.1
+returns-18 c = c.refusal-in-StartNotInside.ensures ∙ rw c.in-StartNotInside.is
 
-returns-19 : tie.Need-returns-19
+returns-19 : tie.Need-returns-in-PartNotAbove
 unfolding verdict_answer
-returns-19 c = c.refusal18.ensures ∙ rw c.before.before.verdict19.given.1
+returns-19 c = c.refusal-in-PartNotAbove.ensures ∙ rw c.in-PartNotAbove.is
 
-returns-20 : tie.Need-returns-20
+returns-20 : tie.Need-returns-in-PartMismatch
 unfolding verdict_answer
-returns-20 c = c.refusal19.ensures ∙ rw c.before.before.verdict20.given.1
+returns-20 c = c.refusal-in-PartMismatch.ensures ∙ rw c.in-PartMismatch.is
 
-returns-21 : tie.Need-returns-21
+returns-21 : tie.Need-returns-in-PartNotInside
 unfolding verdict_answer
-returns-21 c = c.refusal20.ensures ∙ rw c.before.before.verdict21.given.1
+returns-21 c = c.refusal-in-PartNotInside.ensures ∙ rw c.in-PartNotInside.is
 
-pub in-numbers-spec : {M : Type 1} → statement M
-in-numbers-spec =
+pub in_numbers_spec : {M : Type 1} → statement M
+in_numbers_spec =
     tie.close
     (tie.spec (λ c. search rules) (λ c. search rules) (λ c κs. search rules) (λ c. search rules) (λ c κs. search rules) (λ c. search rules)
     (λ c κs. search rules) (λ c. search rules) (λ c κs. search rules) (λ c. search rules) (λ c κs. search rules) (λ c. search rules)

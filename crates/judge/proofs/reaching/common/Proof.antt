@@ -9,12 +9,11 @@ use Rattle.judge.proofs.reaching.common.Tie as tie
 
 tighten-requires : tie.Need-tighten-requires
 tighten-requires c κs =
-    let start = c.before in
-    met-fits start.args.zone start.args.other _ c.meet.ensures start.requires.0 start.requires.1
+    met-fits c.args.zone c.args.other _ c.meet.ensures c.requires.0 c.requires.1
 
 returns : tie.Need-returns
 unfolding common
-returns c = c.tighten.ensures ∙ ap tightened c.before.meet.ensures
+returns c = c.tighten.ensures ∙ ap tightened c.meet.ensures
 
-pub common-spec : {M : Type 1} → statement M
-common-spec = tie.close (tie.spec (λ c κs. search rules) tighten-requires returns)
+pub common_spec : {M : Type 1} → statement M
+common_spec = tie.close (tie.spec (λ c κs. search rules) tighten-requires returns)

@@ -9,8 +9,7 @@ use Rattle.judge.proofs.reaching.waited.Tie as tie
 returns : tie.Need-returns
 unfolding waited_square
 returns c =
-    let delay = c.before in
-    c.meet.ensures ∙ ap (λ z. met z delay.before.before.args.invariant) (delay.delay.ensures ∙ ap delayed_square delay.before.common.ensures)
+    c.meet.ensures ∙ ap (λ z. met z c.args.invariant) (c.delay.ensures ∙ ap delayed_square c.common.ensures)
 
-pub waited-spec : {M : Type 1} → statement M
-waited-spec = tie.close (tie.spec (λ c κs. search rules) (λ c κs. search rules) (λ c κs. search rules) returns)
+pub waited_spec : {M : Type 1} → statement M
+waited_spec = tie.close (tie.spec (λ c κs. search rules) (λ c κs. search rules) (λ c κs. search rules) returns)

@@ -35,148 +35,131 @@ use Rattle.judge.proofs.verdict.judge.Tie as tie
 -- ---- what is known on the way
 
 -- the words of the two files, once the model is read, and what it leaves in the stores
-abbrev words : tie.After-index-model → List ℕ
-words c = c.before.before.before.before.before.args.model.now
+abbrev words : tie.After-index_model-model_read → List ℕ
+words c = c.args.model.now
 
-abbrev list : tie.After-index-model → List ℕ
-list c = c.before.before.before.before.before.args.table.now
+abbrev list : tie.After-index_model-model_read → List ℕ
+list c = c.args.table.now
 
-abbrev edges : tie.After-index-model → List ℕ
-edges c = c.index-model.new.1.0
+abbrev edges : tie.After-index_model-model_read → List ℕ
+edges c = c.index_model-model_read.new.edges
 
-abbrev guards : tie.After-index-model → List ℤ
-guards c = c.index-model.new.1.1.0
+abbrev guards : tie.After-index_model-model_read → List ℤ
+guards c = c.index_model-model_read.new.zones
 
-abbrev model : tie.After-index-model → ModelKept
-model c = keep c.index-model.result.index (edges c) (guards c)
+abbrev model : tie.After-index_model-model_read → ModelKept
+model c = keep c.index_model-model_read.result.index (edges c) (guards c)
 
 -- the model is accepted
-abbrev read : tie.After-enum-told → tie.After-index-model
-read c = c.before.before.before.before
+abbrev read : tie.In-Accepted → tie.After-index_model-model_read
+read c = c.before.before.before
 
-model-room : (c : tie.After-guards2) → let m = c.before.before in ModelStoresFit (edges m) (guards m)
+model-room : (c : tie.After-guards-2-1) → ModelStoresFit (edges c.before.before) (guards c.before.before)
 model-room c =
-    let m = c.before.before in
-    let e : 128 ≤ length (edges m) = search rules in
-    let g : 1225 ≤ length (guards m) = search rules in
+    let e : 128 ≤ length (edges c.before.before) = search rules in
+    let g : 1225 ≤ length (guards c.before.before) = search rules in
     record { edges = e; zones = g }
 
-model-accepted : (c : tie.After-enum-told) → let m = read c in ModelAccepted (words m) m.index-model.result (edges m) (guards m)
+model-accepted : (c : tie.In-Accepted) → ModelAccepted (words c.before.before.before) c.index_model-model_read.result (edges c.before.before.before) (guards c.before.before.before)
 model-accepted c = record {
-  reads = (read c).index-model.ensures.0;
-  index = (read c).index-model.ensures.1.0;
-  room = model-room c.before.before;
+  reads = c.index_model-model_read.ensures.0;
+  index = c.index_model-model_read.ensures.1.0;
+  room = model-room c.before;
   counts = _;
-  accepts = c.enum_told.given.1;
+  accepts = c.in-Accepted.is;
 }
 
 -- the table's words are good
-abbrev listed : tie.After-enum-told2 → tie.After-index-table
-listed c = c.before.before.before.before
+abbrev listed : tie.In-Good → tie.After-index_table-table_read
+listed c = c.before.before.before
 
-abbrev nodes : tie.After-index-table → List ℕ
-nodes c = c.index-table.new.1.1.0
+abbrev nodes : tie.After-index_table-table_read → List ℕ
+nodes c = c.index_table-table_read.new.nodes
 
-abbrev zones : tie.After-index-table → List ℤ
-zones c = c.index-table.new.1.1.1.0
+abbrev zones : tie.After-index_table-table_read → List ℤ
+zones c = c.index_table-table_read.new.zones
 
-abbrev table : tie.After-index-table → Kept
+abbrev table : tie.After-index_table-table_read → Kept
 table c = keep_table (nodes c) (zones c)
 
-table-room : (c : tie.After-zones2) → let t = c.before.before in StoresFit (nodes t) (zones t)
+table-room : (c : tie.After-zones-2-1) → StoresFit (nodes c.before.before) (zones c.before.before)
 table-room c =
-    let t = c.before.before in
-    let n : 192 ≤ length (nodes t) = search rules in
-    let z : 1600 ≤ length (zones t) = search rules in
+    let n : 192 ≤ length (nodes c.before.before) = search rules in
+    let z : 1600 ≤ length (zones c.before.before) = search rules in
     record { nodes = n; zones = z }
 
-abbrev told : tie.After-enum-told2 → tie.After-enum-told
-told c = (listed c).before.before.before.before
+abbrev told : tie.In-Good → tie.In-Accepted
+told c = c.before.before.before.before.before.before.before
 
 -- the nodes are walked
-abbrev good : tie.After-walk → tie.After-enum-told2
+abbrev good : tie.After-walk-finding → tie.In-Good
 good c = c.before.before.before.before.before.before.before.before.before
 
 -- with which of its nodes have zones within their invariants
 walks :
-    (c : tie.After-walk) → let g = good c in let m = read (told g) in
-    let t = (listed g).index-table.result in
-    c.walk.result ≡ walked (list m) (model m) (contained_below (table (listed g)) (guards m) t.count) (table (listed g)) t
-walks c = rw (← c.before.before.before.before.before.contained.ensures) c.walk.ensures
+    (c : tie.After-walk-finding) → let t = c.index_table-table_read.result in
+    c.walk-finding.result ≡ walked (list c.before.before.before.before.before.before.before.before.before.before.before.before.before.before.before.before.before.before.before) (model c.before.before.before.before.before.before.before.before.before.before.before.before.before.before.before.before.before.before.before) (contained_below (table (listed c.before.before.before.before.before.before.before.before.before)) (guards c.before.before.before.before.before.before.before.before.before.before.before.before.before.before.before.before.before.before.before) t.count) (table (listed c.before.before.before.before.before.before.before.before.before)) t
+walks c = rw (← c.contained-contained.ensures) c.walk-finding.ensures
 
 -- the last checks are those of the start node
 starts :
-    (c : tie.After-start-verdict) →
-    let t = listed (good c.before.before.before.before.before.before.before.before) in
-    let m = read (told (good c.before.before.before.before.before.before.before.before)) in
-    c.start-verdict.result ≡ start_at m.index-model.result t.index-table.result (table t)
-starts c = rw (← c.before.load2.ensures, ← c.before.before.before.load.ensures) c.start-verdict.ensures
+    (c : tie.After-start_verdict) →
+    c.start_verdict.result ≡ start_at c.index_model-model_read.result c.index_table-table_read.result (table c.before.before.before.before.before.before.before.before.before.before.before.before.before.before.before.before.before.before.before.before)
+starts c = rw (← c.load.ensures, ← c.load-node.ensures) c.start_verdict.ensures
 
 -- ---- the needs
 
-returns : tie.Need-returns
+returns : tie.Need-returns-in_default
 returns c =
-    let r = c.before.before.before.before in
     with_demands _ _ _
-    (model-refused (words r) (list r) r.index-model.result _ r.index-model.ensures.0 c.model-refused.ensures
-    (λ counts q. miss (1 ∷ 2 ∷ 3 ∷ 4 ∷ 5 ∷ 6 ∷ []) 0 tt (rw q at c.before.match.keys2)))
+    (model-refused (words c.before.before.before.before) (list c.before.before.before.before) c.index_model-model_read.result _ c.index_model-model_read.ensures.0 c.model_refused.ensures
+    (λ counts q. miss (1 ∷ 2 ∷ 3 ∷ 4 ∷ 5 ∷ 6 ∷ []) 0 tt (rw q at c.in_default.in_default-own.keys2)))
 
-index-table-requires : tie.Need-index-table-requires
+index-table-requires : tie.Need-index_table-table_read-requires
 index-table-requires c κs = (fits _ _ _ _ (model-accepted c.before.before.before), search rules)
 
-returns-2 : tie.Need-returns-2
+returns-2 : tie.Need-returns-in_default-table_answer
 returns-2 c =
-    let t = c.before.before.before.before in
-    let m = t.before.before.before.before in
     with_demands _ _ _
-    (words-refused _ _ _ _ (model-accepted m) (list (read m)) _ _ _ t.index-table.ensures.1.1 _ c.words-refused.ensures
-    (λ q. miss (1 ∷ 2 ∷ 3 ∷ 4 ∷ []) 0 tt (rw q at c.before.match2.keys2)))
+    (words-refused _ _ _ _ (model-accepted c.before.before.before.before.before.before.before.before) (list (read c.before.before.before.before.before.before.before.before)) _ _ _ c.index_table-table_read.ensures.1.1 _ c.words_refused.ensures
+    (λ q. miss (1 ∷ 2 ∷ 3 ∷ 4 ∷ []) 0 tt (rw q at c.in_default-table_answer.in_default-table_answer-own.keys2)))
 
-contained-requires : tie.Need-contained-requires
+contained-requires : tie.Need-contained-contained-requires
 contained-requires c κs =
-    let g = c.before.before.before in
-    nodes-asked _ _ _ _ (model-accepted (told g)) (list (read (told g))) _ _ _ (listed g).index-table.ensures.1.1 g.enum-told2.given.1
-    (table-room g.before.before)
+    nodes-asked _ _ _ _ (model-accepted (told c.before.before.before)) (list (read (told c.before.before.before))) _ _ _ c.index_table-table_read.ensures.1.1 c.in-Good.is
+    (table-room c.before.before.before.before)
 
-walk-requires : tie.Need-walk-requires
+walk-requires : tie.Need-walk-finding-requires
 walk-requires c κs =
-    let g = c.before.before.before.before.before.before.before.before in
-    asked _ _ _ _ (model-accepted (told g)) (list (read (told g))) _ _ _ (listed g).index-table.ensures.1.1 g.enum-told2.given.1
-    (table-room g.before.before)
+    asked _ _ _ _ (model-accepted (told c.before.before.before.before.before.before.before.before)) (list (read (told c.before.before.before.before.before.before.before.before))) _ _ _ c.index_table-table_read.ensures.1.1 c.in-Good.is
+    (table-room c.before.before.before.before.before.before.before.before.before)
 
-returns-3 : tie.Need-returns-3
+returns-3 : tie.Need-returns-in_default-finding
 returns-3 c =
-    let w = c.before.before in
-    let g = good w in
     with_demands _ _ _
-    (node-refused _ _ _ _ (model-accepted (told g)) (list (read (told g))) _ _ _ (listed g).index-table.ensures.1.1 g.enum-told2.given.1 _
-    (subst (λ f. HandsOn (finding_answer f) (verdict_answer c.node-refused.result)) (walks w) c.node-refused.ensures)
-    (λ q. miss found 0 tt (rw (walks w ∙ q) at c.before.match3.keys2)))
+    (node-refused _ _ _ _ (model-accepted (told c.before.before.before.before.before.before.before.before.before.before.before)) (list (read (told c.before.before.before.before.before.before.before.before.before.before.before))) _ _ _ c.index_table-table_read.ensures.1.1 c.in-Good.is _
+    (subst (λ f. HandsOn (finding_answer f) (verdict_answer c.node_refused.result)) (walks c.before.before) c.node_refused.ensures)
+    (λ q. miss found 0 tt (rw (walks c.before.before ∙ q) at c.in_default-finding.in_default-finding-own.keys2)))
 
-load-requires : tie.Need-load-requires
+load-requires : tie.Need-load-node-requires
 load-requires c κs =
-    let g = good c.before.before.before.before in
-    start-node _ _ _ _ (model-accepted (told g)) (list (read (told g))) _ _ _ (listed g).index-table.ensures.1.1 g.enum-told2.given.1
-    (table-room g.before.before)
+    start-node _ _ _ _ (model-accepted (told c.before.before.before.before.before.before.before.before.before.before.before.before)) (list (read (told c.before.before.before.before.before.before.before.before.before.before.before.before))) _ _ _ c.index_table-table_read.ensures.1.1 c.in-Good.is
+    (table-room c.before.before.before.before.before.before.before.before.before.before.before.before.before)
 
-load-requires-2 : tie.Need-load-requires-2
+load-requires-2 : tie.Need-load-requires
 load-requires-2 c κs =
-    let g = good c.before.before.before.before.before.before in
-    start-slot _ _ _ _ (model-accepted (told g)) (list (read (told g))) _ _ _ (listed g).index-table.ensures.1.1 g.enum-told2.given.1
-    (table-room g.before.before)
+    start-slot _ _ _ _ (model-accepted (told c.before.before.before.before.before.before.before.before.before.before.before.before.before.before.before)) (list (read (told c.before.before.before.before.before.before.before.before.before.before.before.before.before.before.before))) _ _ _ c.index_table-table_read.ensures.1.1 c.in-Good.is
+    (table-room c.before.before.before.before.before.before.before.before.before.before.before.before.before.before.before.before)
 
-returns-4 : tie.Need-returns-4
+returns-4 : tie.Need-returns
 returns-4 c =
-    let none = c.before.before.before.before.before.before in
-    let w = none.before.before in
-    let g = good w in
     with_demands _ _ _
-    (subst (λ v. Judged (words (read (told g))) (list (read (told g))) (verdict_answer v)) (sym (starts c))
-    (start-judged _ _ _ _ (model-accepted (told g)) (list (read (told g))) _ _ _ (listed g).index-table.ensures.1.1 g.enum-told2.given.1
-    (sym (walks w) ∙ none.enum-told3.given.1)))
+    (subst (λ v. Judged (words (read (told c.before.before.before.before.before.before.before.before.before.before.before.before.before.before.before.before.before))) (list (read (told c.before.before.before.before.before.before.before.before.before.before.before.before.before.before.before.before.before))) (verdict_answer v)) (sym (starts c))
+    (start-judged _ _ _ _ (model-accepted (told c.before.before.before.before.before.before.before.before.before.before.before.before.before.before.before.before.before)) (list (read (told c.before.before.before.before.before.before.before.before.before.before.before.before.before.before.before.before.before))) _ _ _ c.index_table-table_read.ensures.1.1 c.in-Good.is
+    (sym (walks c.before.before.before.before.before.before.before.before) ∙ c.in-None.is)))
 
-pub judge-spec : {M : Type 1} → statement M
-judge-spec =
+pub judge_spec : {M : Type 1} → statement M
+judge_spec =
     tie.close
     (tie.spec (λ c. search rules) (λ c. search rules) (λ c κs. search rules) (λ c. search rules) (λ c κs. search rules) returns
     (λ c. search rules) (λ c. search rules) index-table-requires (λ c. search rules) (λ c κs. search rules) returns-2 (λ c. search rules)

@@ -5,17 +5,17 @@ use Rattle.judge.specs.Deciding.{start_verdict}
 use Rattle.judge.proofs.verdict.start_verdict.Statement.{statement}
 use Rattle.judge.proofs.verdict.start_verdict.Tie as tie
 
-returns : tie.Need-returns
+returns : tie.Need-returns-then-node-start
 unfolding start_verdict
-returns c = rw (ne_eqb _ _ c.if1.true)
+returns c = rw (ne_eqb _ _ c.if-node-start.true)
 
-returns-2 : tie.Need-returns-2
+returns-2 : tie.Need-returns-then-inside
 unfolding start_verdict
-returns-2 c = rw (eq-eqb _ _ c.before.before.if1.false, ← c.before.inside.ensures, c.if2.true)
+returns-2 c = rw (eq-eqb _ _ c.if-node-start.false, ← c.inside.ensures, c.if-inside.true)
 
-returns-3 : tie.Need-returns-3
+returns-3 : tie.Need-returns
 unfolding start_verdict
-returns-3 c = rw (eq-eqb _ _ c.before.before.if1.false, ← c.before.inside.ensures, c.if2.false)
+returns-3 c = rw (eq-eqb _ _ c.if-node-start.false, ← c.inside.ensures, c.if-inside.false)
 
-pub start-verdict-spec : {M : Type 1} → statement M
-start-verdict-spec = tie.close (tie.spec returns (λ c κs. search rules) returns-2 returns-3)
+pub start_verdict_spec : {M : Type 1} → statement M
+start_verdict_spec = tie.close (tie.spec returns (λ c κs. search rules) returns-2 returns-3)

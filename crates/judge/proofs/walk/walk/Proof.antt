@@ -12,42 +12,40 @@ use Rattle.judge.proofs.WalkLaws.{AtNode, nodes_begin, nodes-end, node-found, no
 use Rattle.judge.proofs.walk.walk.Statement.{statement}
 use Rattle.judge.proofs.walk.walk.Tie as tie
 
-abbrev invariant-loop : tie.invariant-loop
+abbrev invariant-loop : tie.invariant-loop-n
 invariant-loop list index edges guards contained table nodes zones n₀ n-end n =
     let m : ModelKept = keep index edges guards in
     let k : Kept = keep_table nodes zones in
     AtNode list table.whole m contained k (walked list m contained k table) n-end n
 
-abbrev decreases-loop : tie.decreases-loop
+abbrev decreases-loop : tie.decreases-loop-n
 decreases-loop list index edges guards contained table nodes zones n₀ n-end n = n-end - n
 
-loop-holds : tie.Need-loop-init invariant-loop decreases-loop
+loop-holds : tie.Need-loop-n-init invariant-loop decreases-loop
 loop-holds c = nodes_begin _ _ _ _ _ _ refl
 
-walk-node-requires : tie.Need-walk-node-requires invariant-loop decreases-loop
-walk-node-requires c κs = c.before.before.before.before.before.requires.nodes _ (omega arith)
+walk-node-requires : tie.Need-walk_node-finding-requires invariant-loop decreases-loop
+walk-node-requires c κs = c.requires.nodes _ (omega arith)
 
 -- the node has a finding
-returns : tie.Need-returns invariant-loop decreases-loop
+returns : tie.Need-returns-in_default invariant-loop decreases-loop
 returns c =
-    let turn = c.before.before in
-    node-found _ _ _ _ _ turn.before.loop.invariant turn.loop-test.true c.before.walk-node.ensures
-    (λ q. miss found 0 tt (rw q at c.match.keys2))
+    node-found _ _ _ _ _ c.loop-n.invariant c.loop-n-test.true c.walk_node-finding.ensures
+    (λ q. miss found 0 tt (rw q at c.in_default.in_default-own.keys2))
 
-add-n : tie.Need-overflow-add-n invariant-loop decreases-loop
+add-n : tie.Need-overflow_step-n invariant-loop decreases-loop
 add-n c =
-    let count = c.before.before.before.before.before.before.before.before.requires.count in
+    let count = c.requires.count in
     search rules
 
-loop-again : tie.Need-loop-preserved invariant-loop decreases-loop
+loop-again : tie.Need-loop-n-preserved invariant-loop decreases-loop
 loop-again c =
-    let turn = c.before.before.before in
-    node-next _ _ _ _ _ turn.before.loop.invariant turn.loop-test.true c.before.before.walk-node.ensures c.enum_told.given.1
+    node-next _ _ _ _ _ c.loop-n.invariant c.loop-n-test.true c.walk_node-finding.ensures c.in-None.is
 
-returns-2 : tie.Need-returns-2 invariant-loop decreases-loop
-returns-2 c = nodes-end _ _ _ _ _ c.before.loop.invariant c.loop-test.false
+returns-2 : tie.Need-returns invariant-loop decreases-loop
+returns-2 c = nodes-end _ _ _ _ _ c.loop-n.invariant c.loop-n-test.false
 
-pub walk-spec : {M : Type 1} → statement M
-walk-spec =
+pub walk_spec : {M : Type 1} → statement M
+walk_spec =
     tie.close
     (tie.spec invariant-loop decreases-loop loop-holds walk-node-requires (λ c. search rules) returns add-n (λ c. search rules) loop-again returns-2)

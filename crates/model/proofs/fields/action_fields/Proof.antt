@@ -6,5 +6,5 @@ use Rattle.model.proofs.fields.action_fields.Tie as tie
 returns : tie.Need-returns
 returns c = rw (lowest c.args.word 268435456)
 
-pub action-fields-spec : {M : Type 1} → statement M
-action-fields-spec = tie.close (tie.spec returns)
+pub action_fields_spec : {M : Type 1} → statement M
+action_fields_spec = tie.close (tie.spec returns)

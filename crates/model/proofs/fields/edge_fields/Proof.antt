@@ -4,8 +4,8 @@ use Rattle.model.proofs.fields.edge_fields.Statement.{statement}
 use Rattle.model.proofs.fields.edge_fields.Tie as tie
 
 returns : tie.Need-returns
-returns c = rw (c.mask-fits.ensures, c.before.mask-of.ensures, c.before.before.weight-of.ensures.0)
+returns c = rw (c.mask_fits.ensures, c.mask_of.ensures, c.weight_of-weight.ensures.0)
 
-pub edge-fields-spec : {M : Type 1} → statement M
-edge-fields-spec =
+pub edge_fields_spec : {M : Type 1} → statement M
+edge_fields_spec =
     tie.close (tie.spec (λ c κs. search rules) (λ c κs. search rules) (λ c κs. search rules) returns)

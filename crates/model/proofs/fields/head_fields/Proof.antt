@@ -4,8 +4,8 @@ use Rattle.model.proofs.fields.head_fields.Statement.{statement}
 use Rattle.model.proofs.fields.head_fields.Tie as tie
 
 returns : tie.Need-returns
-returns c = rw (c.before.good-clocks.ensures, c.before.before.clocks-of.ensures, c.denominator-of.ensures.0)
+returns c = rw (c.good_clocks.ensures, c.clocks_of.ensures, c.denominator_of.ensures.0)
 
-pub head-fields-spec : {M : Type 1} → statement M
-head-fields-spec =
+pub head_fields_spec : {M : Type 1} → statement M
+head_fields_spec =
     tie.close (tie.spec (λ c κs. search rules) (λ c κs. search rules) (λ c κs. search rules) returns)

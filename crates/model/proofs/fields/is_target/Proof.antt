@@ -6,5 +6,5 @@ use Rattle.model.proofs.fields.is_target.Tie as tie
 returns : tie.Need-returns
 returns c = rw (lowest c.args.word 2)
 
-pub is-target-spec : {M : Type 1} → statement M
-is-target-spec = tie.close (tie.spec returns)
+pub is_target_spec : {M : Type 1} → statement M
+is_target_spec = tie.close (tie.spec returns)

@@ -6,7 +6,7 @@ use Rattle.model.proofs.fields.one_zero.Tie as tie
 
 returns : tie.Need-returns
 unfolding bound_of
-returns c = rw (c.before.first-clock.ensures, c.second-clock.ensures)
+returns c = rw (c.first_clock-i.ensures, c.second_clock-j.ensures)
 
-pub one-zero-spec : {M : Type 1} → statement M
-one-zero-spec = tie.close (tie.spec (λ c κs. search rules) (λ c κs. search rules) returns)
+pub one_zero_spec : {M : Type 1} → statement M
+one_zero_spec = tie.close (tie.spec (λ c κs. search rules) (λ c κs. search rules) returns)

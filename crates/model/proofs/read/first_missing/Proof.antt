@@ -9,31 +9,29 @@ use Rattle.model.proofs.ScanLaws.{missing-end, missing-here, missing-later}
 use Rattle.model.proofs.read.first_missing.Statement.{statement}
 use Rattle.model.proofs.read.first_missing.Tie as tie
 
-abbrev invariant-loop : tie.invariant-loop
+abbrev invariant-loop : tie.invariant-loop-at
 invariant-loop list locations at₀ at-end at = (at ≤ length list) × (first_missing locations 0 list ≡ first_missing locations at (drop at list))
 
-abbrev decreases-loop : tie.decreases-loop
+abbrev decreases-loop : tie.decreases-loop-at
 decreases-loop list locations at₀ at-end at = length list - at
 
-returns : tie.Need-returns invariant-loop decreases-loop
+returns : tie.Need-returns-then-kind_of-missing invariant-loop decreases-loop
 returns c =
-    let turn = c.before.before.before.before.before in
-    missing-here _ _ turn.loop.at (omega arith) (rw (c.before.kind-of.ensures, c.before.before.lands-at.ensures.0) at c.if1.true)
-    ∙ sym turn.loop.invariant.1
+    missing-here _ _ c.loop-at.at (omega arith) (rw (c.kind_of.ensures, c.lands_at.ensures.0) at c.if-kind_of-missing.true)
+    ∙ sym c.loop-at.invariant.1
 
-loop-again : tie.Need-loop-preserved invariant-loop decreases-loop
-loop-again c =
-    let turn = c.before.before.before.before.before in (
-      omega arith,
-      turn.loop.invariant.1 ∙ missing-later _ _ turn.loop.at (omega arith)
-          (rw (c.before.kind-of.ensures, c.before.before.lands-at.ensures.0) at c.if1.false),
-    )
+loop-again : tie.Need-loop-at-preserved invariant-loop decreases-loop
+loop-again c = (
+  omega arith,
+  c.loop-at.invariant.1 ∙ missing-later _ _ c.loop-at.at (omega arith)
+      (rw (c.kind_of.ensures, c.lands_at.ensures.0) at c.if-kind_of-missing.false),
+)
 
-returns-2 : tie.Need-returns-2 invariant-loop decreases-loop
-returns-2 c = missing-end _ _ _ c.loop-test.false ∙ sym c.before.loop.invariant.1
+returns-2 : tie.Need-returns invariant-loop decreases-loop
+returns-2 c = missing-end _ _ _ c.loop-at-test.false ∙ sym c.loop-at.invariant.1
 
-pub first-missing-spec : {M : Type 1} → statement M
-first-missing-spec =
+pub first_missing_spec : {M : Type 1} → statement M
+first_missing_spec =
     tie.close
     (tie.spec invariant-loop decreases-loop (λ c. (omega arith, refl)) (λ c. search rules) (λ c. search rules) (λ c κs. search rules) (λ c. search rules)
     (λ c κs. search rules) returns (λ c. search rules) (λ c. search rules) loop-again returns-2)

@@ -6,13 +6,13 @@ use Rattle.model.specs.Index.{missing_of}
 use Rattle.model.proofs.read.missing_of.Statement.{statement}
 use Rattle.model.proofs.read.missing_of.Tie as tie
 
-returns : tie.Need-returns
+returns : tie.Need-returns-then-seen
 unfolding missing_of
-returns c = rw (lt-ltb _ _ c.if1.true)
+returns c = rw (lt-ltb _ _ c.if-seen.true)
 
-returns-2 : tie.Need-returns-2
+returns-2 : tie.Need-returns
 unfolding missing_of
-returns-2 c = c.first-missing.ensures ∙ rw (le-ltb _ _ c.before.if1.false)
+returns-2 c = c.first_missing.ensures ∙ rw (le-ltb _ _ c.if-seen.false)
 
-pub missing-of-spec : {M : Type 1} → statement M
-missing-of-spec = tie.close (tie.spec (λ c. search rules) returns (λ c κs. search rules) returns-2)
+pub missing_of_spec : {M : Type 1} → statement M
+missing_of_spec = tie.close (tie.spec (λ c. search rules) returns (λ c κs. search rules) returns-2)

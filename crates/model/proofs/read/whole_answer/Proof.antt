@@ -4,17 +4,17 @@ use Rattle.model.specs.Index.{whole_answer}
 use Rattle.model.proofs.read.whole_answer.Statement.{statement}
 use Rattle.model.proofs.read.whole_answer.Tie as tie
 
-returns : tie.Need-returns
+returns : tie.Need-returns-in-At
 unfolding whole_answer
-returns c = rw c.before.missing.given.1
+returns c = rw c.in-At.is
 
-returns-2 : tie.Need-returns-2
+returns-2 : tie.Need-returns-then-empty
 unfolding whole_answer
-returns-2 c = rw (c.before.enum_told.given.1, c.if1.true)
+returns-2 c = rw (c.in_default.is, c.if-empty.true)
 
-returns-3 : tie.Need-returns-3
+returns-3 : tie.Need-returns
 unfolding whole_answer
-returns-3 c = rw (c.before.enum_told.given.1, c.if1.false)
+returns-3 c = rw (c.in_default.is, c.if-empty.false)
 
-pub whole-answer-spec : {M : Type 1} → statement M
-whole-answer-spec = tie.close (tie.spec (λ c. search rules) returns (λ c. search rules) returns-2 returns-3)
+pub whole_answer_spec : {M : Type 1} → statement M
+whole_answer_spec = tie.close (tie.spec (λ c. search rules) returns (λ c. search rules) returns-2 returns-3)

@@ -6,5 +6,5 @@ use Rattle.table.proofs.fields.blocked_fields.Tie as tie
 returns : tie.Need-returns
 returns c = rw (lowest c.args.word 268435456)
 
-pub blocked-fields-spec : {M : Type 1} → statement M
-blocked-fields-spec = tie.close (tie.spec returns)
+pub blocked_fields_spec : {M : Type 1} → statement M
+blocked_fields_spec = tie.close (tie.spec returns)

@@ -6,7 +6,7 @@ use Rattle.table.proofs.fields.cut_fields.Tie as tie
 
 returns : tie.Need-returns
 unfolding bound_of
-returns c = rw (c.before.bound-fields.ensures, c.second-clock.ensures)
+returns c = rw (c.bound_fields.ensures, c.second_clock.ensures)
 
-pub cut-fields-spec : {M : Type 1} → statement M
-cut-fields-spec = tie.close (tie.spec (λ c κs. search rules) (λ c κs. search rules) returns)
+pub cut_fields_spec : {M : Type 1} → statement M
+cut_fields_spec = tie.close (tie.spec (λ c κs. search rules) (λ c κs. search rules) returns)

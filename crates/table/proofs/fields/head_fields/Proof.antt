@@ -6,5 +6,5 @@ use Rattle.table.proofs.fields.head_fields.Tie as tie
 returns : tie.Need-returns
 returns c = rw c.whole_of.ensures.0
 
-pub head-fields-spec : {M : Type 1} → statement M
-head-fields-spec = tie.close (tie.spec (λ c κs. search rules) returns)
+pub head_fields_spec : {M : Type 1} → statement M
+head_fields_spec = tie.close (tie.spec (λ c κs. search rules) returns)

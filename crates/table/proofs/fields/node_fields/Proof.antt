@@ -5,7 +5,7 @@ use Rattle.table.proofs.fields.node_fields.Statement.{statement}
 use Rattle.table.proofs.fields.node_fields.Tie as tie
 
 returns : tie.Need-returns
-returns c = rw (lowest c.before.args.word 16777216, c.location-of.ensures.0)
+returns c = rw (lowest c.args.word 16777216, c.location_of.ensures.0)
 
-pub node-fields-spec : {M : Type 1} → statement M
-node-fields-spec = tie.close (tie.spec (λ c κs. search rules) (λ c. search rules) returns)
+pub node_fields_spec : {M : Type 1} → statement M
+node_fields_spec = tie.close (tie.spec (λ c κs. search rules) (λ c. search rules) returns)

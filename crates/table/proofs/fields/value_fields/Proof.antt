@@ -4,7 +4,7 @@ use Rattle.table.proofs.fields.value_fields.Statement.{statement}
 use Rattle.table.proofs.fields.value_fields.Tie as tie
 
 returns : tie.Need-returns
-returns c = rw c.value_of_lem.ensures.0
+returns c = rw c.value_of.ensures.0
 
-pub value-fields-spec : {M : Type 1} → statement M
-value-fields-spec = tie.close (tie.spec (λ c κs. search rules) returns)
+pub value_fields_spec : {M : Type 1} → statement M
+value_fields_spec = tie.close (tie.spec (λ c κs. search rules) returns)

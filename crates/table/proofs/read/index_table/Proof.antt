@@ -6,9 +6,7 @@ use Rattle.table.proofs.read.index_table.Tie as tie
 
 returns : tie.Need-returns
 returns c =
-    let scan = c.before.before.before.before.before in
-    let start = scan.before.before.before.before.before in
-    returned _ _ _ start.requires.1 _ start.requires.0 scan.scan.result _ _ _ scan.scan.ensures c.answer-of.ensures
+    returned _ _ _ c.requires.1 _ c.requires.0 c.scan-scanned.result _ _ _ c.scan-scanned.ensures c.answer_of-answer.ensures
 
-pub index-table-spec : {M : Type 1} → statement M
-index-table-spec = tie.close (tie.spec (λ c κs. search rules) (λ c κs. search rules) (λ c. search rules) (λ c. search rules) returns)
+pub index_table_spec : {M : Type 1} → statement M
+index_table_spec = tie.close (tie.spec (λ c κs. search rules) (λ c κs. search rules) (λ c. search rules) (λ c. search rules) returns)

@@ -9,34 +9,32 @@ use Rattle.table.proofs.ScanLaws.{numbers-end, numbers-here, numbers-later}
 use Rattle.table.proofs.read.numbers_answer.Statement.{statement}
 use Rattle.table.proofs.read.numbers_answer.Tie as tie
 
-abbrev invariant-loop : tie.invariant-loop
+abbrev invariant-loop : tie.invariant-loop-at
 invariant-loop list nodes at₀ at-end at =
     (at ≤ length list) × (numbers_answer nodes 0 list ≡ numbers_answer nodes at (drop at list))
 
-abbrev decreases-loop : tie.decreases-loop
+abbrev decreases-loop : tie.decreases-loop-at
 decreases-loop list nodes at₀ at-end at = length list - at
 
-returns : tie.Need-returns invariant-loop decreases-loop
+returns : tie.Need-returns-then-names-nodes invariant-loop decreases-loop
 returns c =
-    let turn = c.before.before.before.before.before in
-    numbers-here _ turn.loop.at _ (omega arith)
-    (rw (c.before.before.kind-of.ensures, c.before.number_of_lem.ensures.0) at c.if1.true)
-    ∙ sym turn.loop.invariant.1
+    numbers-here _ c.loop-at.at _ (omega arith)
+    (rw (c.kind_of-kind.ensures, c.number_of.ensures.0) at c.if-names-nodes.true)
+    ∙ sym c.loop-at.invariant.1
 
-loop-again : tie.Need-loop-preserved invariant-loop decreases-loop
-loop-again c =
-    let turn = c.before.before.before.before.before in (
-      omega arith,
-      turn.loop.invariant.1
-          ∙ numbers-later _ turn.loop.at _ (omega arith)
-          (rw (c.before.before.kind-of.ensures, c.before.number_of_lem.ensures.0) at c.if1.false),
-    )
+loop-again : tie.Need-loop-at-preserved invariant-loop decreases-loop
+loop-again c = (
+  omega arith,
+  c.loop-at.invariant.1
+      ∙ numbers-later _ c.loop-at.at _ (omega arith)
+      (rw (c.kind_of-kind.ensures, c.number_of.ensures.0) at c.if-names-nodes.false),
+)
 
-returns-2 : tie.Need-returns-2 invariant-loop decreases-loop
-returns-2 c = numbers-end _ _ _ c.loop-test.false ∙ sym c.before.loop.invariant.1
+returns-2 : tie.Need-returns invariant-loop decreases-loop
+returns-2 c = numbers-end _ _ _ c.loop-at-test.false ∙ sym c.loop-at.invariant.1
 
-pub numbers-answer-spec : {M : Type 1} → statement M
-numbers-answer-spec =
+pub numbers_answer_spec : {M : Type 1} → statement M
+numbers_answer_spec =
     tie.close
     (tie.spec invariant-loop decreases-loop (λ c. (omega arith, refl)) (λ c. search rules) (λ c. search rules) (λ c κs. search rules) (λ c κs. search rules)
     (λ c. search rules) returns (λ c. search rules) (λ c. search rules) loop-again returns-2)

@@ -23,182 +23,182 @@ use Rattle.table.proofs.Limits.{limits-nothing, node-room, value-node, bound-ask
 use Rattle.table.proofs.ScanLaws.{seen_step, has-slot, has-node, kept-bound, kept-node, kept-value, kept-other}
 use Rattle.table.proofs.ScanLaws.{scan-end, scan-stop, scan-go}
 use Rattle.table.proofs.scan.scan.Statement.{statement}
+use Rattle.table.proofs.scan.scan.Lts.{in-8, in-9, in_default-kind}
 use Rattle.table.proofs.scan.scan.Tie as tie
 
-abbrev invariant-loop : tie.invariant-loop
+abbrev invariant-loop : tie.invariant-loop-at
 invariant-loop index list nodes₀ zones₀ seen₀ follows at₀ at-end nodes zones seen at =
     (at ≤ length list) × WithinLimits index seen × (length nodes ≡ length nodes₀) × (length zones ≡ length zones₀)
     × (scanned index list nodes₀ zones₀ ≡ scan_from index seen (keep nodes zones) at (drop at list)) × FollowsTable follows
 
-abbrev decreases-loop : tie.decreases-loop
+abbrev decreases-loop : tie.decreases-loop-at
 decreases-loop index list nodes₀ zones₀ seen₀ follows at₀ at-end nodes zones seen at = length list - at
 
 -- past a word's check: the turn of the loop, the word, and that there is one
-abbrev turn : tie.After-fault invariant-loop decreases-loop → tie.At-loop invariant-loop decreases-loop
+abbrev turn : tie.After-fault-fault invariant-loop decreases-loop → tie.At-loop-at invariant-loop decreases-loop
 turn c = c.before.before.before.before.before.before
 
-abbrev began : tie.At-loop invariant-loop decreases-loop → tie.Start invariant-loop decreases-loop
+abbrev began : tie.At-loop-at invariant-loop decreases-loop → tie.Start invariant-loop decreases-loop
 began c = c.before.before.before
 
-abbrev word : tie.After-fault invariant-loop decreases-loop → ℕ
-word c = get_or (began (turn c)).args.list.now (turn c).loop.at 0
+abbrev word : tie.After-fault-fault invariant-loop decreases-loop → ℕ
+word c = get_or c.args.list.now c.loop-at.at 0
 
-inside : (c : tie.After-fault invariant-loop decreases-loop) → (turn c).loop.at < length (began (turn c)).args.list.now
-inside c = c.before.before.before.before.before.loop-test.true
+inside : (c : tie.After-fault-fault invariant-loop decreases-loop) → c.loop-at.at < length c.args.list.now
+inside c = c.loop-at-test.true
 
 -- the word has a fault
-faulty : (c : tie.At-match-keys2 invariant-loop decreases-loop) → c.before.fault.result ≡ fault.None → ⊥
-faulty c q = miss (1 ∷ 2 ∷ 3 ∷ []) 0 tt (rw q at c.match.keys2)
+faulty : (c : tie.In_default invariant-loop decreases-loop) → c.fault-fault.result ≡ fault.None → ⊥
+faulty c q = miss (1 ∷ 2 ∷ 3 ∷ []) 0 tt (rw q at c.in_default.in_default-own.keys2)
 
 -- it has none: the turn of the loop, and the word's kind
-abbrev checked : tie.After-enum-told invariant-loop decreases-loop → tie.After-fault invariant-loop decreases-loop
-checked c = c.before.before
+abbrev checked : tie.In-None invariant-loop decreases-loop → tie.After-fault-fault invariant-loop decreases-loop
+checked c = c.before
 
-abbrev read : tie.After-enum-told invariant-loop decreases-loop → tie.After-kind-of invariant-loop decreases-loop
-read c = (checked c).before.before.before
+abbrev read : tie.In-None invariant-loop decreases-loop → tie.After-kind_of-kind invariant-loop decreases-loop
+read c = c.before.before.before.before
 
-abbrev index : tie.After-enum-told invariant-loop decreases-loop → Index
-index c = (began (turn (checked c))).args.index
+abbrev index : tie.In-None invariant-loop decreases-loop → Index
+index c = c.args.index
 
-abbrev seen : tie.After-enum-told invariant-loop decreases-loop → Seen
-seen c = (turn (checked c)).loop.seen
+abbrev seen : tie.In-None invariant-loop decreases-loop → Seen
+seen c = c.loop-at.seen
 
-fits : (c : tie.After-enum-told invariant-loop decreases-loop) → IndexFits (index c)
-fits c = (began (turn (checked c))).pre.0
+fits : (c : tie.In-None invariant-loop decreases-loop) → IndexFits (index c)
+fits c = c.requires.0
 
-within : (c : tie.After-enum-told invariant-loop decreases-loop) → WithinLimits (index c) (seen c)
-within c = (turn (checked c)).loop.inv.1
+within : (c : tie.In-None invariant-loop decreases-loop) → WithinLimits (index c) (seen c)
+within c = c.loop-at.invariant.1
 
-sound : (c : tie.After-enum-told invariant-loop decreases-loop) → fault_at (seen c) (index c).clocks (index c).locations (word (checked c)) ≡ fault.None
-sound c = sym (checked c).fault.ensures ∙ c.enum_told.given.1
+sound : (c : tie.In-None invariant-loop decreases-loop) → fault_at (seen c) (index c).clocks (index c).locations (word (checked c)) ≡ fault.None
+sound c = sym c.fault-fault.ensures ∙ c.in-None.is
 
 named :
-    (c : tie.After-enum-told invariant-loop decreases-loop) (k : TableKind) → (read c).kind-of.result ≡ table_number k →
+    (c : tie.In-None invariant-loop decreases-loop) (k : TableKind) → c.kind_of-kind.result ≡ table_number k →
     kind (word (checked c)) ≡ table_number k
-named c k e = sym (read c).kind-of.ensures ∙ e
+named c k e = sym c.kind_of-kind.ensures ∙ e
 
 other :
-    (c : tie.After-enum-told invariant-loop decreases-loop) (k : TableKind) → ((read c).kind-of.result ≡ table_number k → ⊥) →
+    (c : tie.In-None invariant-loop decreases-loop) (k : TableKind) → (c.kind_of-kind.result ≡ table_number k → ⊥) →
     kind (word (checked c)) ≡ table_number k → ⊥
-other c k = other-number (read c).kind-of.ensures
+other c k = other-number c.kind_of-kind.ensures
 
-loop-holds : tie.Need-loop-init invariant-loop decreases-loop
+loop-holds : tie.Need-loop-at-init invariant-loop decreases-loop
 unfolding scanned follows table_follows numbered? may_follow? follows? table_follows? all?
 loop-holds c = (omega arith, limits-nothing _, refl, refl, refl, record { rule = refl })
 
 -- the constant table has a row for the opener
-index-1-allowed : tie.Need-bounds-1-allowed invariant-loop decreases-loop
-index-1-allowed c = table-opener-row _ c.before.before.before.before.loop.invariant.1.opener
+index-1-allowed : tie.Need-bounds-follows-seen invariant-loop decreases-loop
+index-1-allowed c = table-opener-row _ c.loop-at.invariant.1.opener
 
 -- and a place for the word's kind
-index-2-allowed : tie.Need-bounds-2-allowed invariant-loop decreases-loop
+index-2-allowed : tie.Need-bounds-follows-kind invariant-loop decreases-loop
 index-2-allowed c = search rules
 
 -- what it says of the word
-fault-requires : tie.Need-fault-requires invariant-loop decreases-loop
+fault-requires : tie.Need-fault-fault-requires invariant-loop decreases-loop
 fault-requires c κs =
-    let read = c.before.before in
-    let here = read.before.before.before.loop in
-    table-looked-up here.invariant.5 _ (index-2-allowed c.before) here.invariant.1.opener ∙ ap (table_follows? here.seen.opener) read.kind-of.ensures
+    let here = c.loop-at in
+    table-looked-up here.invariant.5 _ (index-2-allowed c.before) here.invariant.1.opener ∙ ap (table_follows? here.seen.opener) c.kind_of-kind.ensures
 
-same_length : tie.Need-same-length invariant-loop decreases-loop
-same_length c = (turn c.before).loop.inv.2
+same_length : tie.Need-shape_of-nodes-in_default invariant-loop decreases-loop
+same_length c = c.loop-at.invariant.2
 
-same-length-2 : tie.Need-same-length-2 invariant-loop decreases-loop
-same-length-2 c = (turn c.before).loop.inv.3
+same-length-2 : tie.Need-shape_of-zones-in_default invariant-loop decreases-loop
+same-length-2 c = c.loop-at.invariant.3
 
-returns : tie.Need-returns invariant-loop decreases-loop
+returns : tie.Need-returns-in_default invariant-loop decreases-loop
 returns c =
-    let here = (turn c.before).loop in
-    scan-stop _ _ here.at _ _ (inside c.before) _ c.before.fault.ensures (faulty c) ∙ sym here.inv.4
+    let here = c.loop-at in
+    scan-stop _ _ here.at _ _ (inside c.before) _ c.fault-fault.ensures (faulty c) ∙ sym here.invariant.4
 
 -- a bound: it stands behind a node and has two of five clocks
 bounded :
-    (c : tie.Then1 invariant-loop decreases-loop) → let w = word (checked c.before) in
+    (c : tie.Then-kind-eq-BOUND invariant-loop decreases-loop) → let w = word (checked c.before) in
     (1 ≤ (seen c.before).nodes) × ((bound_of w).i < 5) × ((bound_of w).j < 5)
-bounded c = let k = c.before in bound-asks _ _ _ (fits k) (within k) (sound k) (named k node_bound c.if1.true)
+bounded c = bound-asks _ _ _ (fits c.before) (within c.before) (sound c.before) (named c.before node_bound c.if-kind-eq-BOUND.true)
 
-sub-add-bound : tie.Need-overflow-sub-add-bound invariant-loop decreases-loop
+sub-add-bound : tie.Need-overflow_sub-seen invariant-loop decreases-loop
 sub-add-bound c = (bounded c.before.before).0
 
-add-bound-requires : tie.Need-add-bound-requires invariant-loop decreases-loop
+add-bound-requires : tie.Need-add_bound-requires invariant-loop decreases-loop
 add-bound-requires c κs =
-    let k = c.before.before.before in
-    let here = (turn (checked k)).loop in
+    let here = c.loop-at in
     let asked = bounded c.before.before in
-    let most = (within k).nodes in
-    (has-slot (omega arith) here.inv.3 (began (turn (checked k))).pre.1.zones, asked.1, asked.2)
+    let most = (within c.before.before.before).nodes in
+    (has-slot (omega arith) here.invariant.3 c.requires.1.zones, asked.1, asked.2)
 
-loop-again : tie.Need-loop-preserved invariant-loop decreases-loop
+loop-again : tie.Need-loop-at-preserved-then-kind-eq-BOUND invariant-loop decreases-loop
 unfolding seen_with_kind
 loop-again c =
-    let k = c.before.before.before.before.before in
-    let here = (turn (checked k)).loop in
-    let e = named k node_bound c.before.before.before.before.if1.true in
-    let go = scan-go _ _ _ _ _ (inside (checked k)) (fits k) here.inv.1 here.inv.2 here.inv.3 here.inv.4 (sound k)
-    (seen_step _ _ _ _ node_bound e) (kept-bound _ _ _ _ _ e refl c.before.add-bound.ensures) in
-    (go.0, go.1, go.2, go.3, go.4, here.inv.5)
+    let here = c.loop-at in
+    let e = named c.before.before.before.before.before node_bound c.if-kind-eq-BOUND.true in
+    let go = scan-go _ _ _ _ _ (inside (checked c.before.before.before.before.before)) (fits c.before.before.before.before.before) here.invariant.1 here.invariant.2 here.invariant.3 here.invariant.4 (sound c.before.before.before.before.before)
+    (seen_step _ _ _ _ node_bound e) (kept-bound _ _ _ _ _ e refl c.add_bound.ensures) in
+    (go.0, go.1, go.2, go.3, go.4, here.invariant.5)
 
 put-requires : tie.Need-put-requires invariant-loop decreases-loop
 put-requires c κs =
-    let k = c.before.before.before.before in
-    let here = (turn (checked k)).loop in
-    has-slot (node-room _ _ _ (fits k) (within k) (sound k) (named k node c.before.before.match2.keys1)) here.inv.3
-    (began (turn (checked k))).pre.1.zones
+    let here = c.loop-at in
+    has-slot (node-room _ _ _ (fits c.before.before.before.before) (within c.before.before.before.before) (sound c.before.before.before.before) (named c.before.before.before.before node c.in-8.is)) here.invariant.3
+    c.requires.1.zones
 
 -- a value stands behind a node
-valued : (c : tie.At-match2-keys2 invariant-loop decreases-loop) → 1 ≤ (seen c.before.before).nodes
-valued c = let k = c.before.before in (value-node _ _ _ (fits k) (within k) (sound k) (named k value c.match2.keys2)).0
+valued : (c : tie.In-9 invariant-loop decreases-loop) → 1 ≤ (seen c.before.before).nodes
+valued c = (value-node _ _ _ (fits c.before.before) (within c.before.before) (sound c.before.before) (named c.before.before value c.in-9.is)).0
 
-sub-put : tie.Need-overflow-sub-put invariant-loop decreases-loop
+sub-put : tie.Need-overflow_sub-seen-in-9 invariant-loop decreases-loop
 sub-put c = valued c.before.before.before
 
-put-requires-2 : tie.Need-put-requires-2 invariant-loop decreases-loop
+put-requires-2 : tie.Need-put-requires-in-9 invariant-loop decreases-loop
 put-requires-2 c κs =
-    let k = c.before.before.before.before.before in
-    let here = (turn (checked k)).loop in
+    let here = c.loop-at in
     let one = valued c.before.before.before in
-    let most = (within k).nodes in
-    has-node (omega arith) here.inv.2 (began (turn (checked k))).pre.1.nodes
+    let most = (within c.before.before.before.before.before).nodes in
+    has-node (omega arith) here.invariant.2 c.requires.1.nodes
 
-with-word-requires : tie.Need-with-word-requires invariant-loop decreases-loop
-with-word-requires c κs = let k = c.before.before in (fits k, within k, sound k)
+with-word-requires : tie.Need-with_word-seen-requires invariant-loop decreases-loop
+with-word-requires c κs = (fits c.before.before, within c.before.before, sound c.before.before)
 
 -- where the other kinds meet: what the stores hold with the word
 joined :
-    (c : tie.At-match2-branch invariant-loop decreases-loop) → let k = c.before.before in let here = (turn (checked k)).loop in
-    keep c.match2.nodes c.match2.zones ≡ kept_with here.seen (word (checked k)) here.at (keep here.nodes here.zones)
+    (c : tie.Joined-kind invariant-loop decreases-loop) → let here = c.loop-at in
+    keep c.match-kind.nodes c.match-kind.zones ≡ kept_with here.seen (word (checked c.before.before)) here.at (keep here.nodes here.zones)
 joined c =
-    let k = c.before.before in
-    ⊎_elim
-    (λ w. kept-node _ _ _ _ _ (named k node w.0.keys1) w.5 (w.6 ∙ w.3.ensures ∙ ap (λ z. put_at z _ _) w.1.ensures))
-    (⊎_elim
-    (λ w. kept-value _ _ _ _ _ (named k value w.0.keys2) (w.7 ∙ w.4.ensures ∙ ap (λ N. put_entry N _ _) w.1.ensures) w.8)
-    (λ w. kept-other _ _ _ _ _ (other k node_bound c.before.if1.false) (other k node w.0.rest.0.1) (other k value w.0.rest.1) w.1
-    w.2))
-    c.match2.branch
+    let k : tie.In-None invariant-loop decreases-loop = c.before.before in
+    elim c.match-kind.branch [
+      | in-8 w ↦
+          kept-node _ _ _ _ _ (named k node w.in-8.is) w.nodes-is
+          (w.zones-is ∙ w.put.ensures ∙ ap (λ z. put_at z _ _) w.universe.ensures)
+      | in-9 w ↦
+          kept-value _ _ _ _ _ (named k value w.in-9.is)
+          (w.nodes-is ∙ w.put-in-9.ensures ∙ ap (λ N. put_entry N _ _) w.of.ensures) w.zones-is
+      | in_default-kind w ↦
+          let r = w.in_default-kind.in_default-kind-own.rest in
+          kept-other _ _ _ _ _ (other k node_bound c.if-kind-eq-BOUND.false) (other k node r.0.1) (other k value r.1) w.nodes-is
+          w.zones-is
+    ]
 
-loop-again-2 : tie.Need-loop-preserved-2 invariant-loop decreases-loop
+loop-again-2 : tie.Need-loop-at-preserved invariant-loop decreases-loop
 loop-again-2 c =
-    let k = c.before.before.before in
-    let here = (turn (checked k)).loop in
-    let go = scan-go _ _ _ _ _ (inside (checked k)) (fits k) here.inv.1 here.inv.2 here.inv.3 here.inv.4 (sound k)
-    c.with-word.ensures (joined c.before) in
-    (go.0, go.1, go.2, go.3, go.4, here.inv.5)
+    let here = c.loop-at in
+    let go = scan-go _ _ _ _ _ (inside (checked c.before.before.before)) (fits c.before.before.before) here.invariant.1 here.invariant.2 here.invariant.3 here.invariant.4 (sound c.before.before.before)
+    c.with_word-seen.ensures (joined c.before) in
+    (go.0, go.1, go.2, go.3, go.4, here.invariant.5)
 
-same-length-3 : tie.Need-same-length-3 invariant-loop decreases-loop
-same-length-3 c = c.before.before.loop.invariant.2
+same-length-3 : tie.Need-shape_of-nodes invariant-loop decreases-loop
+same-length-3 c = c.loop-at.invariant.2
 
-same-length-4 : tie.Need-same-length-4 invariant-loop decreases-loop
-same-length-4 c = c.before.before.loop.invariant.3
+same-length-4 : tie.Need-shape_of-zones invariant-loop decreases-loop
+same-length-4 c = c.loop-at.invariant.3
 
-returns-2 : tie.Need-returns-2 invariant-loop decreases-loop
+returns-2 : tie.Need-returns invariant-loop decreases-loop
 returns-2 c =
-    let here = c.before.before.loop in
-    rw c.last-fault.ensures (scan-end _ _ here.at _ _ here.invariant.0 c.before.loop-test.false ∙ sym here.invariant.4)
+    let here = c.loop-at in
+    rw c.last_fault-fault.ensures (scan-end _ _ here.at _ _ here.invariant.0 c.loop-at-test.false ∙ sym here.invariant.4)
 
-pub scan-spec : {M : Type 1} → statement M
-scan-spec =
+pub scan_spec : {M : Type 1} → statement M
+scan_spec =
     tie.close
     (tie.spec invariant-loop decreases-loop loop-holds (λ c. search rules) (λ c. search rules) (λ c κs. search rules) (λ c. search rules) (λ c. search rules)
     (λ c. search rules) index-1-allowed index-2-allowed fault-requires (λ c. search rules) same_length same-length-2 returns sub-add-bound

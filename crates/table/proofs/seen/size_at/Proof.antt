@@ -6,18 +6,18 @@ use Rattle.table.specs.Scan.{edges_at, size_at}
 use Rattle.table.proofs.seen.size_at.Statement.{statement}
 use Rattle.table.proofs.seen.size_at.Tie as tie
 
-returns : tie.Need-returns
+returns : tie.Need-returns-then-rows-eq0
 unfolding size_at
-returns c = rw (eq-eqb _ _ c.if1.true)
+returns c = rw (eq-eqb _ _ c.if-rows-eq0.true)
 
-sub-result : tie.Need-overflow-sub-result
-sub-result c = let some = c.before.before.if1.false in c.before.before.before.requires.edges (omega arith)
+sub-result : tie.Need-overflow_sub-result
+sub-result c = let some = c.if-rows-eq0.false in c.requires.edges (omega arith)
 
-returns-2 : tie.Need-returns-2
+returns-2 : tie.Need-returns
 unfolding size_at edges_at
-returns-2 c = rw (ne_eqb _ _ c.before.before.if1.false)
+returns-2 c = rw (ne_eqb _ _ c.if-rows-eq0.false)
 
-pub size-at-spec : {M : Type 1} → statement M
-size-at-spec =
+pub size_at_spec : {M : Type 1} → statement M
+size_at_spec =
     tie.close
     (tie.spec returns (λ c. search rules) (λ c. search rules) (λ c. search rules) (λ c. search rules) (λ c. search rules) sub-result returns-2)

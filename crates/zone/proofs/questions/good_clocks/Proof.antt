@@ -3,5 +3,5 @@ use mathlib.Core.Path.{refl}
 use Rattle.zone.proofs.questions.good_clocks.Statement.{statement}
 use Rattle.zone.proofs.questions.good_clocks.Tie as tie
 
-pub good-clocks-spec : {M : Type 1} → statement M
-good-clocks-spec = tie.close (tie.spec (λ c. refl))
+pub good_clocks_spec : {M : Type 1} → statement M
+good_clocks_spec = tie.close (tie.spec (λ c. refl))

@@ -5,7 +5,7 @@ use Rattle.zone.proofs.words.bound_fields.Statement.{statement}
 use Rattle.zone.proofs.words.bound_fields.Tie as tie
 
 returns : tie.Need-returns
-returns c = fields-are _ _ _ _ c.before.first-clock.ensures c.second-clock.ensures
+returns c = fields-are _ _ _ _ c.before.first_clock-i.ensures c.second_clock-j.ensures
 
-pub bound-fields-spec : {M : Type 1} → statement M
-bound-fields-spec = tie.close (tie.spec (λ c κs. search rules) (λ c κs. search rules) returns)
+pub bound_fields_spec : {M : Type 1} → statement M
+bound_fields_spec = tie.close (tie.spec (λ c κs. search rules) (λ c κs. search rules) returns)

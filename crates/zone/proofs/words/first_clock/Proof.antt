@@ -8,5 +8,5 @@ returns : tie.Need-returns
 unfolding bound_of
 returns c = refl
 
-pub first-clock-spec : {M : Type 1} → statement M
-first-clock-spec = tie.close (tie.spec returns)
+pub first_clock_spec : {M : Type 1} → statement M
+first_clock_spec = tie.close (tie.spec returns)

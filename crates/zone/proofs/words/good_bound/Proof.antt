@@ -6,7 +6,7 @@ use Rattle.zone.proofs.words.good_bound.Tie as tie
 
 returns : tie.Need-returns
 unfolding good_bound?
-returns c = rw (c.before.kind-of.ensures, c.bound-fields.ensures)
+returns c = rw (c.before.kind_of.ensures, c.bound_fields.ensures)
 
-pub good-bound-spec : {M : Type 1} → statement M
-good-bound-spec = tie.close (tie.spec (λ c κs. search rules) (λ c κs. search rules) returns)
+pub good_bound_spec : {M : Type 1} → statement M
+good_bound_spec = tie.close (tie.spec (λ c κs. search rules) (λ c κs. search rules) returns)

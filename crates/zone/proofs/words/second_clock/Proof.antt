@@ -8,5 +8,5 @@ returns : tie.Need-returns
 unfolding bound_of
 returns c = refl
 
-pub second-clock-spec : {M : Type 1} → statement M
-second-clock-spec = tie.close (tie.spec returns)
+pub second_clock_spec : {M : Type 1} → statement M
+second_clock_spec = tie.close (tie.spec returns)

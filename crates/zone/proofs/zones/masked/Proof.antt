@@ -6,25 +6,25 @@ use Rattle.zone.proofs.WordLaws.{lowest-bit}
 use Rattle.zone.proofs.zones.masked.Statement.{statement}
 use Rattle.zone.proofs.zones.masked.Tie as tie
 
-returns : tie.Need-returns
+returns : tie.Need-returns-in-0
 unfolding masked?
-returns c = simp c.match.keys1
+returns c = simp c.in-0.is
 
-returns-2 : tie.Need-returns-2
+returns-2 : tie.Need-returns-in-1
 unfolding masked?
-returns-2 c = rw c.match.keys2 (lowest-bit c.before.args.mask)
+returns-2 c = rw c.in-1.is (lowest-bit c.before.args.mask)
 
-returns-3 : tie.Need-returns-3
+returns-3 : tie.Need-returns-in-2
 unfolding masked?
-returns-3 c = simp c.match.keys3
+returns-3 c = simp c.in-2.is
 
-returns-4 : tie.Need-returns-4
+returns-4 : tie.Need-returns-in-3
 unfolding masked?
-returns-4 c = simp c.match.keys4
+returns-4 c = simp c.in-3.is
 
-returns-5 : tie.Need-returns-5
+returns-5 : tie.Need-returns-in_default
 unfolding masked?
 returns-5 c = let h : c.before.args.clock ≡ 4 = omega arith in simp h
 
-pub masked-spec : {M : Type 1} → statement M
-masked-spec = tie.close (tie.spec returns returns-2 returns-3 returns-4 returns-5)
+pub masked_spec : {M : Type 1} → statement M
+masked_spec = tie.close (tie.spec returns returns-2 returns-3 returns-4 returns-5)

@@ -6,13 +6,13 @@ use Rattle.zone.specs.Squares.{source}
 use Rattle.zone.proofs.zones.source_of.Statement.{statement}
 use Rattle.zone.proofs.zones.source_of.Tie as tie
 
-returns : tie.Need-returns
+returns : tie.Need-returns-then-masked
 unfolding source
-returns c = (simp (sym c.before.masked.ensures ∙ c.if1.true), omega arith)
+returns c = (simp (sym c.before.masked.ensures ∙ c.if-masked.true), omega arith)
 
-returns-2 : tie.Need-returns-2
+returns-2 : tie.Need-returns-else-masked
 unfolding source
-returns-2 c = (simp (sym c.before.masked.ensures ∙ c.if1.false), omega arith)
+returns-2 c = (simp (sym c.before.masked.ensures ∙ c.if-masked.false), omega arith)
 
-pub source-of-spec : {M : Type 1} → statement M
-source-of-spec = tie.close (tie.spec (λ c κs. search rules) returns returns-2)
+pub source_of_spec : {M : Type 1} → statement M
+source_of_spec = tie.close (tie.spec (λ c κs. search rules) returns returns-2)

@@ -12,13 +12,13 @@ returns c =
     let two = three.before in
     rw (
       two.before.source_of.ensures.0,
-      two.source-of2.ensures.0,
-      three.source-of3.ensures.0,
-      four.source-of4.ensures.0,
-      c.source-of5.ensures.0,
+      two.source_of-2.ensures.0,
+      three.source_of-3.ensures.0,
+      four.source_of-4.ensures.0,
+      c.source_of-5.ensures.0,
     )
 
-pub sources-spec : {M : Type 1} → statement M
-sources-spec =
+pub sources_spec : {M : Type 1} → statement M
+sources_spec =
     tie.close
     (tie.spec (λ c κs. search rules) (λ c κs. search rules) (λ c κs. search rules) (λ c κs. search rules) (λ c κs. search rules) returns)

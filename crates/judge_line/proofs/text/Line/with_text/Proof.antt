@@ -31,7 +31,7 @@ decreases-loop self text line₀ k₀ k-end line k = length text - k
 loop-holds : tie.Need-loop-init invariant-loop decreases-loop
 loop-holds c =
     let line = c.args.self in
-    (omega arith, simp length-map at c.well-formed.0.1.1.0.1.0.1, paste-zero line.bytes line.count c.args.text.now)
+    (omega arith, c.well_formed.0.1.1.0.1.0.1, paste-zero line.bytes line.count c.args.text.now)
 
 loop-again : tie.Need-loop-preserved invariant-loop decreases-loop
 loop-again c =

@@ -4,8 +4,8 @@ use Rattle.model.proofs.index.Index.with_location.Statement.{statement}
 use Rattle.model.proofs.index.Index.with_location.Tie as tie
 
 returns : tie.Need-returns
-returns c = rw c.before.is-target.ensures
+returns c = rw c.is_target.ensures
 
-pub with-location-spec : {M : Type 1} → statement M
-with-location-spec =
+pub with_location_spec : {M : Type 1} → statement M
+with_location_spec =
     tie.close (tie.spec (λ c κs. search rules) (λ c. search rules) (λ c. search rules) (λ c. search rules) returns)

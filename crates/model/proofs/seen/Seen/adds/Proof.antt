@@ -7,7 +7,7 @@ use Rattle.model.proofs.seen.Seen.adds.Tie as tie
 
 returns : tie.Need-returns
 unfolding adds_at? adds?
-returns c = rw c.before.kind-of.ensures
+returns c = rw c.kind_of.ensures
 
-pub adds-spec : {M : Type 1} → statement M
-adds-spec = tie.close (tie.spec (λ c κs. search rules) returns)
+pub adds_spec : {M : Type 1} → statement M
+adds_spec = tie.close (tie.spec (λ c κs. search rules) returns)

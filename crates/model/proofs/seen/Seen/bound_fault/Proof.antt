@@ -8,28 +8,27 @@ use Rattle.model.proofs.seen.Seen.bound_fault.Statement.{statement}
 use Rattle.model.proofs.seen.Seen.bound_fault.Tie as tie
 
 -- what is asked of the fields
-asked : (c : tie.After-bound-fields) → let start = c.before.before in c.bound-fields.result ≡ fields_at? start.args.self start.args.word
-asked c = c.bound-fields.ensures ∙ fields_at _ _ bound c.before.before.requires.0
+asked : (c : tie.After-bound_fields) → c.bound_fields.result ≡ fields_at? c.args.self c.args.word
+asked c = c.bound_fields.ensures ∙ fields_at _ _ bound c.requires.0
 
-returns : tie.Need-returns
+returns : tie.Need-returns-then-not-allowed
 unfolding fault_at
-returns c = rw (failed c.before.requires.1 c.if1.true)
+returns c = rw (failed c.requires.1 c.if-not-allowed.true-raw)
 
-returns-2 : tie.Need-returns-2
+returns-2 : tie.Need-returns-then-not-bound_fields
 unfolding fault_at
-returns-2 c = rw (passed c.before.before.before.requires.1 c.before.before.if1.false, failed (asked c.before) c.if2.true)
+returns-2 c = rw (passed c.requires.1 c.if-not-allowed.false-raw, failed (asked c.before) c.if-not-bound_fields.true-raw)
 
-returns-3 : tie.Need-returns-3
+returns-3 : tie.Need-returns
 unfolding fault_at
 returns-3 c =
-    let start = c.before.before.before in
-    let follows = passed start.requires.1 c.before.before.if1.false in
+    let follows = passed c.requires.1 c.if-not-allowed.false-raw in
     rw (
       follows,
-      passed (asked c.before) c.if2.false,
-      bound-limit start.args.self start.args.word start.requires.0,
-      bound-adds start.args.self start.args.word start.requires.0 follows,
+      passed (asked c.before) c.if-not-bound_fields.false-raw,
+      bound-limit c.args.self c.args.word c.requires.0,
+      bound-adds c.args.self c.args.word c.requires.0 follows,
     )
 
-pub bound-fault-spec : {M : Type 1} → statement M
-bound-fault-spec = tie.close (tie.spec returns (λ c κs. search rules) returns-2 returns-3)
+pub bound_fault_spec : {M : Type 1} → statement M
+bound_fault_spec = tie.close (tie.spec returns (λ c κs. search rules) returns-2 returns-3)

@@ -6,7 +6,7 @@ use Rattle.model.proofs.seen.Seen.bound_fields.Tie as tie
 
 returns : tie.Need-returns
 unfolding fields?
-returns c = rw (c.before.before.bound-fields.ensures, c.one-zero.ensures)
+returns c = rw (c.bound_fields.ensures, c.one_zero.ensures)
 
-pub bound-fields-spec : {M : Type 1} → statement M
-bound-fields-spec = tie.close (tie.spec (λ c κs. search rules) (λ c κs. search rules) returns)
+pub bound_fields_spec : {M : Type 1} → statement M
+bound_fields_spec = tie.close (tie.spec (λ c κs. search rules) (λ c κs. search rules) returns)

@@ -9,57 +9,57 @@ use Rattle.model.proofs.WordChecks.{failed, passed}
 use Rattle.model.proofs.seen.Seen.fault.Statement.{statement}
 use Rattle.model.proofs.seen.Seen.fault.Tie as tie
 
-bound-fault-requires : tie.Need-bound-fault-requires
-bound-fault-requires c κs = (sym c.before.kind-of.ensures ∙ c.if1.true, c.before.before.requires.1)
+bound-fault-requires : tie.Need-bound_fault-requires
+bound-fault-requires c κs = (sym c.kind_of.ensures ∙ c.if-kind_of-eq-BOUND.true, c.requires.1)
 
 -- a bound
-returns : tie.Need-returns
-returns c = c.bound-fault.ensures
+returns : tie.Need-returns-then-kind_of-eq-BOUND
+returns c = c.bound_fault.ensures
 
 -- another word
-returns-2 : tie.Need-returns-2
+returns-2 : tie.Need-returns-then-not-allowed
 unfolding fault_at
-returns-2 c = rw (failed c.before.before.before.requires.1 c.if2.true)
+returns-2 c = rw (failed c.requires.1 c.if-not-allowed.true-raw)
 
 -- past the first check
-follows : (c : tie.Else2) → let start = c.before.before.before in follows? start.args.self.opener (kind start.args.word) ≡ true
-follows c = passed c.before.before.before.requires.1 c.if2.false
+follows : (c : tie.Else-not-allowed) → follows? c.args.self.opener (kind c.args.word) ≡ true
+follows c = passed c.requires.1 c.if-not-allowed.false-raw
 
-returns-3 : tie.Need-returns-3
+returns-3 : tie.Need-returns-then-not-fields
 unfolding fault_at
-returns-3 c = rw (follows c.before.before, failed c.before.fields.ensures c.if3.true)
+returns-3 c = rw (follows c.before.before, failed c.fields.ensures c.if-not-fields.true-raw)
 
-returns-4 : tie.Need-returns-4
+returns-4 : tie.Need-returns-then-not-limit
 unfolding fault_at
 returns-4 c =
     rw (
       follows c.before.before.before.before,
-      passed c.before.before.before.fields.ensures c.before.before.if3.false,
-      failed c.before.limit.ensures c.if4.true,
+      passed c.fields.ensures c.if-not-fields.false-raw,
+      failed c.limit.ensures c.if-not-limit.true-raw,
     )
 
-returns-5 : tie.Need-returns-5
+returns-5 : tie.Need-returns-then-not-adds
 unfolding fault_at
 returns-5 c =
     rw (
       follows c.before.before.before.before.before.before,
-      passed c.before.before.before.before.before.fields.ensures c.before.before.before.before.if3.false,
-      passed c.before.before.before.limit.ensures c.before.before.if4.false,
-      failed c.before.adds.ensures c.if5.true,
+      passed c.fields.ensures c.if-not-fields.false-raw,
+      passed c.limit.ensures c.if-not-limit.false-raw,
+      failed c.adds.ensures c.if-not-adds.true-raw,
     )
 
-returns-6 : tie.Need-returns-6
+returns-6 : tie.Need-returns
 unfolding fault_at
 returns-6 c =
     rw (
       follows c.before.before.before.before.before.before,
-      passed c.before.before.before.before.before.fields.ensures c.before.before.before.before.if3.false,
-      passed c.before.before.before.limit.ensures c.before.before.if4.false,
-      passed c.before.adds.ensures c.if5.false,
+      passed c.fields.ensures c.if-not-fields.false-raw,
+      passed c.limit.ensures c.if-not-limit.false-raw,
+      passed c.adds.ensures c.if-not-adds.false-raw,
     )
 
-pub fault-spec : {M : Type 1} → statement M
-fault-spec =
+pub fault_spec : {M : Type 1} → statement M
+fault_spec =
     tie.close
     (tie.spec (λ c κs. search rules) bound-fault-requires returns returns-2 (λ c κs. search rules) returns-3 (λ c κs. search rules) returns-4
     (λ c κs. search rules) returns-5 returns-6)

@@ -4,13 +4,13 @@ use Rattle.model.specs.Scan.{last_fault}
 use Rattle.model.proofs.seen.Seen.last_fault.Statement.{statement}
 use Rattle.model.proofs.seen.Seen.last_fault.Tie as tie
 
-returns : tie.Need-returns
+returns : tie.Need-returns-then-self-eq-START
 unfolding last_fault
-returns c = rw (eq-eqb _ _ c.if1.true)
+returns c = rw (eq-eqb _ _ c.if-self-eq-START.true)
 
-returns-2 : tie.Need-returns-2
+returns-2 : tie.Need-returns
 unfolding last_fault
-returns-2 c = rw (ne_eqb _ _ c.if1.false)
+returns-2 c = rw (ne_eqb _ _ c.if-self-eq-START.false)
 
-pub last-fault-spec : {M : Type 1} → statement M
-last-fault-spec = tie.close (tie.spec returns returns-2)
+pub last_fault_spec : {M : Type 1} → statement M
+last_fault_spec = tie.close (tie.spec returns returns-2)

@@ -8,23 +8,23 @@ use Rattle.model.proofs.WordChecks.{limit-at, no-limit}
 use Rattle.model.proofs.seen.Seen.limit.Statement.{statement}
 use Rattle.model.proofs.seen.Seen.limit.Tie as tie
 
-returns : tie.Need-returns
+returns : tie.Need-returns-in-2
 unfolding limit?
-returns c = limit-at _ _ location (sym c.before.before.kind-of.ensures ∙ c.before.match.keys1)
+returns c = limit-at _ _ location (sym c.kind_of-kind.ensures ∙ c.in-2.is)
 
-returns-2 : tie.Need-returns-2
+returns-2 : tie.Need-returns-in-3
 unfolding limit?
-returns-2 c = limit-at _ _ action (sym c.before.before.kind-of.ensures ∙ c.before.match.keys2)
+returns-2 c = limit-at _ _ action (sym c.kind_of-kind.ensures ∙ c.in-3.is)
 
-returns-3 : tie.Need-returns-3
+returns-3 : tie.Need-returns-in-4
 unfolding limit?
-returns-3 c = limit-at _ _ edge (sym c.before.before.kind-of.ensures ∙ c.before.match.keys3)
+returns-3 c = limit-at _ _ edge (sym c.kind_of-kind.ensures ∙ c.in-4.is)
 
-returns-4 : tie.Need-returns-4
+returns-4 : tie.Need-returns-in_default
 returns-4 c =
-    let read = c.before.kind-of.ensures in
-    let r = c.match.rest in
+    let read = c.kind_of-kind.ensures in
+    let r = c.in_default.in_default-own.rest in
     no-limit _ _ (other-number read r.0.0.1) (other-number read r.0.1) (other-number read r.1)
 
-pub limit-spec : {M : Type 1} → statement M
-limit-spec = tie.close (tie.spec (λ c κs. search rules) returns returns-2 returns-3 returns-4)
+pub limit_spec : {M : Type 1} → statement M
+limit_spec = tie.close (tie.spec (λ c κs. search rules) returns returns-2 returns-3 returns-4)

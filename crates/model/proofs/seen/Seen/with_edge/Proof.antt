@@ -4,17 +4,17 @@ use borrow.Author.Rules.{rules}
 use Rattle.model.proofs.seen.Seen.with_edge.Statement.{statement}
 use Rattle.model.proofs.seen.Seen.with_edge.Tie as tie
 
-returns : tie.Need-returns
+returns : tie.Need-returns-then-self-to
 returns c =
-    let to = c.before.before.lands-at.ensures.0 in
-    rw (c.before.before.before.before.weight-of.ensures.0, ← to, lt-ltb _ _ c.if1.true)
+    let to = c.lands_at-to.ensures.0 in
+    rw (c.weight_of.ensures.0, ← to, lt-ltb _ _ c.if-self-to.true)
 
-returns-2 : tie.Need-returns-2
+returns-2 : tie.Need-returns-else-self-to
 returns-2 c =
-    let to = c.before.before.lands-at.ensures.0 in
-    rw (c.before.before.before.before.weight-of.ensures.0, ← to, le-ltb _ _ c.if1.false)
+    let to = c.lands_at-to.ensures.0 in
+    rw (c.weight_of.ensures.0, ← to, le-ltb _ _ c.if-self-to.false)
 
-pub with-edge-spec : {M : Type 1} → statement M
-with-edge-spec =
+pub with_edge_spec : {M : Type 1} → statement M
+with_edge_spec =
     tie.close
     (tie.spec (λ c. search rules) (λ c. search rules) (λ c κs. search rules) (λ c. search rules) (λ c κs. search rules) returns returns-2)

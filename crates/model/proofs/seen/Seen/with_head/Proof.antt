@@ -4,7 +4,7 @@ use Rattle.model.proofs.seen.Seen.with_head.Statement.{statement}
 use Rattle.model.proofs.seen.Seen.with_head.Tie as tie
 
 returns : tie.Need-returns
-returns c = rw (c.before.clocks-of.ensures, c.denominator-of.ensures.0)
+returns c = rw (c.clocks_of.ensures, c.denominator_of.ensures.0)
 
-pub with-head-spec : {M : Type 1} → statement M
-with-head-spec = tie.close (tie.spec (λ c κs. search rules) (λ c κs. search rules) returns)
+pub with_head_spec : {M : Type 1} → statement M
+with_head_spec = tie.close (tie.spec (λ c κs. search rules) (λ c κs. search rules) returns)

@@ -8,35 +8,35 @@ use Rattle.model.proofs.ScanLaws.{seen_step, seen-stays}
 use Rattle.model.proofs.seen.Seen.with_word.Statement.{statement}
 use Rattle.model.proofs.seen.Seen.with_word.Tie as tie
 
-returns : tie.Need-returns
+returns : tie.Need-returns-in-1
 unfolding seen_with_kind
-returns c = c.with-head.ensures ∙ seen_step _ _ _ head (sym c.before.before.kind-of.ensures ∙ c.before.match.keys1)
+returns c = c.with_head.ensures ∙ seen_step _ _ _ head (sym c.kind_of-kind.ensures ∙ c.in-1.is)
 
-returns-2 : tie.Need-returns-2
+returns-2 : tie.Need-returns-in-2
 unfolding seen_with_kind
-returns-2 c = c.with-location.ensures ∙ seen_step _ _ _ location (sym c.before.before.kind-of.ensures ∙ c.before.match.keys2)
+returns-2 c = c.with_location.ensures ∙ seen_step _ _ _ location (sym c.kind_of-kind.ensures ∙ c.in-2.is)
 
-returns-3 : tie.Need-returns-3
+returns-3 : tie.Need-returns-in-3
 unfolding seen_with_kind
-returns-3 c = c.with-action.ensures ∙ seen_step _ _ _ action (sym c.before.before.kind-of.ensures ∙ c.before.match.keys3)
+returns-3 c = c.with_action.ensures ∙ seen_step _ _ _ action (sym c.kind_of-kind.ensures ∙ c.in-3.is)
 
-returns-4 : tie.Need-returns-4
+returns-4 : tie.Need-returns-in-4
 unfolding seen_with_kind
-returns-4 c = c.with-edge.ensures ∙ seen_step _ _ _ edge (sym c.before.before.kind-of.ensures ∙ c.before.match.keys4)
+returns-4 c = c.with_edge.ensures ∙ seen_step _ _ _ edge (sym c.kind_of-kind.ensures ∙ c.in-4.is)
 
-returns-5 : tie.Need-returns-5
+returns-5 : tie.Need-returns-in-6
 unfolding seen_with_kind
-returns-5 c = c.with-start.ensures ∙ seen_step _ _ _ start (sym c.before.before.kind-of.ensures ∙ c.before.match.keys5)
+returns-5 c = c.with_start.ensures ∙ seen_step _ _ _ start (sym c.kind_of-kind.ensures ∙ c.in-6.is)
 
-returns-6 : tie.Need-returns-6
+returns-6 : tie.Need-returns-in_default
 returns-6 c =
-    let read = c.before.kind-of.ensures in
-    let r = c.match.rest in
+    let read = c.kind_of-kind.ensures in
+    let r = c.in_default.in_default-own.rest in
     seen-stays _ _ _ (other-number read r.0.0.0.0.1) (other-number read r.0.0.0.1) (other-number read r.0.0.1)
     (other-number read r.0.1) (other-number read r.1)
 
-pub with-word-spec : {M : Type 1} → statement M
-with-word-spec =
+pub with_word_spec : {M : Type 1} → statement M
+with_word_spec =
     tie.close
     (tie.spec (λ c κs. search rules) (λ c κs. search rules) (λ c κs. search rules) (λ c κs. search rules) (λ c κs. search rules)
     (λ c κs. search rules) returns returns-2 returns-3 returns-4 returns-5 returns-6)

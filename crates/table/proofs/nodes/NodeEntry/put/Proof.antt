@@ -7,15 +7,13 @@ use Rattle.table.proofs.NodeLaws.{second-there, third-there}
 use Rattle.table.proofs.nodes.NodeEntry.put.Statement.{statement}
 use Rattle.table.proofs.nodes.NodeEntry.put.Tie as tie
 
-slice-write-nodes-2 : tie.Need-slice-write-nodes-2
+slice-write-nodes-2 : tie.Need-bounds-nodes-p-2
 slice-write-nodes-2 c =
-    let start = c.before.before in
-    second-there start.args.nodes.now (start.args.n * 3) start.args.self.location start.requires.room
+    second-there c.args.nodes.now (c.args.n * 3) c.args.self.location c.requires.room
 
-slice-write-nodes-3 : tie.Need-slice-write-nodes-3
+slice-write-nodes-3 : tie.Need-bounds-nodes-p-3
 slice-write-nodes-3 c =
-    let start = c.before.before in
-    third-there start.args.nodes.now (start.args.n * 3) start.args.self.location start.args.self.value start.requires.room
+    third-there c.args.nodes.now (c.args.n * 3) c.args.self.location c.args.self.value c.requires.room
 
 returns : tie.Need-returns
 unfolding put_entry

@@ -7,30 +7,28 @@ use Rattle.table.proofs.WordChecks.{bound-rows, bound-fields, bound-limit}
 use Rattle.table.proofs.seen.Seen.bound_fault.Statement.{statement}
 use Rattle.table.proofs.seen.Seen.bound_fault.Tie as tie
 
-returns : tie.Need-returns
+returns : tie.Need-returns-then-not-allowed
 unfolding fault_at
-returns c locations = rw (failed c.before.requires.1 c.if1.true)
+returns c locations = rw (failed c.requires.1 c.if-not-allowed.true-raw)
 
-returns-2 : tie.Need-returns-2
+returns-2 : tie.Need-returns-then-not-bound_fields
 unfolding fault_at
 returns-2 c locations =
-    let start = c.before.before.before in
     rw (
-      passed start.requires.1 c.before.before.if1.false,
-      bound-rows start.args.self start.args.word start.requires.0,
-      failed (c.before.bound-fields.ensures ∙ bound-fields start.args.self start.args.word start.requires.0 _ locations) c.if2.true,
+      passed c.requires.1 c.if-not-allowed.false-raw,
+      bound-rows c.args.self c.args.word c.requires.0,
+      failed (c.bound_fields.ensures ∙ bound-fields c.args.self c.args.word c.requires.0 _ locations) c.if-not-bound_fields.true-raw,
     )
 
-returns-3 : tie.Need-returns-3
+returns-3 : tie.Need-returns
 unfolding fault_at
 returns-3 c locations =
-    let start = c.before.before.before in
     rw (
-      passed start.requires.1 c.before.before.if1.false,
-      bound-rows start.args.self start.args.word start.requires.0,
-      passed (c.before.bound-fields.ensures ∙ bound-fields start.args.self start.args.word start.requires.0 _ locations) c.if2.false,
-      bound-limit start.args.self start.args.word start.requires.0,
+      passed c.requires.1 c.if-not-allowed.false-raw,
+      bound-rows c.args.self c.args.word c.requires.0,
+      passed (c.bound_fields.ensures ∙ bound-fields c.args.self c.args.word c.requires.0 _ locations) c.if-not-bound_fields.false-raw,
+      bound-limit c.args.self c.args.word c.requires.0,
     )
 
-pub bound-fault-spec : {M : Type 1} → statement M
-bound-fault-spec = tie.close (tie.spec returns (λ c κs. search rules) returns-2 returns-3)
+pub bound_fault_spec : {M : Type 1} → statement M
+bound_fault_spec = tie.close (tie.spec returns (λ c κs. search rules) returns-2 returns-3)

@@ -9,54 +9,52 @@ use Rattle.table.specs.Scan.{rows_allow_at?, fault_at}
 use Rattle.table.proofs.seen.Seen.fault.Statement.{statement}
 use Rattle.table.proofs.seen.Seen.fault.Tie as tie
 
-bound-fault-requires : tie.Need-bound-fault-requires
-bound-fault-requires c κs = (sym c.before.kind-of.ensures ∙ c.if1.true, c.before.before.requires)
+bound-fault-requires : tie.Need-bound_fault-requires
+bound-fault-requires c κs = (sym c.kind_of.ensures ∙ c.if-kind_of-eq-BOUND.true, c.requires)
 
 -- a bound
-returns : tie.Need-returns
-returns c = c.bound-fault.ensures _
+returns : tie.Need-returns-then-kind_of-eq-BOUND
+returns c = c.bound_fault.ensures _
 
 -- the first check of another word
 told :
-    (c : tie.After-rows-allow) → let start = c.before.before.before in
-    (start.args.allowed && c.rows-allow.result)
-    ≡ (table_follows? start.args.self.opener (kind start.args.word) && rows_allow_at? start.args.self start.args.word)
-told c = rw (c.before.before.before.requires, c.rows-allow.ensures)
+    (c : tie.After-rows_allow) → (c.args.allowed && c.rows_allow.result)
+    ≡ (table_follows? c.args.self.opener (kind c.args.word) && rows_allow_at? c.args.self c.args.word)
+told c = rw (c.requires, c.rows_allow.ensures)
 
-returns-2 : tie.Need-returns-2
+returns-2 : tie.Need-returns-then-not-allowed-rows_allow
 unfolding fault_at
-returns-2 c = rw (failed (told c.before) c.if2.true)
+returns-2 c = rw (failed (told c.before) c.if-not-allowed-rows_allow.true-raw)
 
 -- past the first check
 stands :
-    (c : tie.Else2) → let start = c.before.before.before.before in
-    (table_follows? start.args.self.opener (kind start.args.word) && rows_allow_at? start.args.self start.args.word) ≡ true
-stands c = passed (told c.before) c.if2.false
+    (c : tie.Else-not-allowed-rows_allow) → (table_follows? c.args.self.opener (kind c.args.word) && rows_allow_at? c.args.self c.args.word) ≡ true
+stands c = passed (told c.before) c.if-not-allowed-rows_allow.false-raw
 
-returns-3 : tie.Need-returns-3
+returns-3 : tie.Need-returns-then-not-fields
 unfolding fault_at
-returns-3 c = rw (stands c.before.before, failed c.before.fields.ensures c.if3.true)
+returns-3 c = rw (stands c.before.before, failed c.fields.ensures c.if-not-fields.true-raw)
 
-returns-4 : tie.Need-returns-4
+returns-4 : tie.Need-returns-then-not-limit
 unfolding fault_at
 returns-4 c =
     rw (
       stands c.before.before.before.before,
-      passed c.before.before.before.fields.ensures c.before.before.if3.false,
-      failed c.before.limit.ensures c.if4.true,
+      passed c.fields.ensures c.if-not-fields.false-raw,
+      failed c.limit.ensures c.if-not-limit.true-raw,
     )
 
-returns-5 : tie.Need-returns-5
+returns-5 : tie.Need-returns
 unfolding fault_at
 returns-5 c =
     rw (
       stands c.before.before.before.before,
-      passed c.before.before.before.fields.ensures c.before.before.if3.false,
-      passed c.before.limit.ensures c.if4.false,
+      passed c.fields.ensures c.if-not-fields.false-raw,
+      passed c.limit.ensures c.if-not-limit.false-raw,
     )
 
-pub fault-spec : {M : Type 1} → statement M
-fault-spec =
+pub fault_spec : {M : Type 1} → statement M
+fault_spec =
     tie.close
     (tie.spec (λ c κs. search rules) bound-fault-requires returns (λ c κs. search rules) returns-2 (λ c κs. search rules) returns-3
     (λ c κs. search rules) returns-4 returns-5)

@@ -5,7 +5,7 @@ use Rattle.table.proofs.seen.Seen.limit.Statement.{statement}
 use Rattle.table.proofs.seen.Seen.limit.Tie as tie
 
 returns : tie.Need-returns
-returns c = rw c.before.kind-of.ensures (limit_is c.before.before.args.self _)
+returns c = rw c.kind_of.ensures (limit_is c.args.self _)
 
-pub limit-spec : {M : Type 1} → statement M
-limit-spec = tie.close (tie.spec (λ c κs. search rules) returns)
+pub limit_spec : {M : Type 1} → statement M
+limit_spec = tie.close (tie.spec (λ c κs. search rules) returns)

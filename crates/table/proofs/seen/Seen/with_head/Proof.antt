@@ -6,5 +6,5 @@ use Rattle.table.proofs.seen.Seen.with_head.Tie as tie
 returns : tie.Need-returns
 returns c = rw c.whole_of.ensures.0
 
-pub with-head-spec : {M : Type 1} → statement M
-with-head-spec = tie.close (tie.spec (λ c κs. search rules) returns)
+pub with_head_spec : {M : Type 1} → statement M
+with_head_spec = tie.close (tie.spec (λ c κs. search rules) returns)

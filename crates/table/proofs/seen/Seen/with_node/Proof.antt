@@ -4,7 +4,7 @@ use Rattle.table.proofs.seen.Seen.with_node.Statement.{statement}
 use Rattle.table.proofs.seen.Seen.with_node.Tie as tie
 
 returns : tie.Need-returns
-returns c = rw c.location-of.ensures.0
+returns c = rw c.location_of.ensures.0
 
-pub with-node-spec : {M : Type 1} → statement M
-with-node-spec = tie.close (tie.spec (λ c. search rules) (λ c κs. search rules) returns)
+pub with_node_spec : {M : Type 1} → statement M
+with_node_spec = tie.close (tie.spec (λ c. search rules) (λ c κs. search rules) returns)

@@ -4,7 +4,7 @@ use Rattle.table.proofs.seen.Seen.with_start.Statement.{statement}
 use Rattle.table.proofs.seen.Seen.with_start.Tie as tie
 
 returns : tie.Need-returns
-returns c = rw c.number_of_lem.ensures.0
+returns c = rw c.number_of.ensures.0
 
-pub with-start-spec : {M : Type 1} → statement M
-with-start-spec = tie.close (tie.spec (λ c κs. search rules) returns)
+pub with_start_spec : {M : Type 1} → statement M
+with_start_spec = tie.close (tie.spec (λ c κs. search rules) returns)

@@ -4,11 +4,11 @@ use borrow.Author.Rules.{rules}
 use Rattle.table.proofs.seen.Seen.with_successor.Statement.{statement}
 use Rattle.table.proofs.seen.Seen.with_successor.Tie as tie
 
-returns : tie.Need-returns
-returns c = rw (c.with_row.ensures, eq-eqb _ _ c.before.if1.true)
+returns : tie.Need-returns-then-self
+returns c = rw (c.with_row.ensures, eq-eqb _ _ c.if-self.true)
 
-returns-2 : tie.Need-returns-2
-returns-2 c = rw (ne_eqb _ _ c.before.if1.false)
+returns-2 : tie.Need-returns
+returns-2 c = rw (ne_eqb _ _ c.if-self.false)
 
-pub with-successor-spec : {M : Type 1} → statement M
-with-successor-spec = tie.close (tie.spec (λ c. search rules) (λ c κs. search rules) returns (λ c. search rules) returns-2)
+pub with_successor_spec : {M : Type 1} → statement M
+with_successor_spec = tie.close (tie.spec (λ c. search rules) (λ c κs. search rules) returns (λ c. search rules) returns-2)

@@ -5,17 +5,16 @@ use Rattle.table.proofs.Limits.{value-asked}
 use Rattle.table.proofs.seen.Seen.with_value.Statement.{statement}
 use Rattle.table.proofs.seen.Seen.with_value.Tie as tie
 
-size-at-requires : tie.Need-size-at-requires
+size-at-requires : tie.Need-size_at-requires
 unfolding first_row
 size-at-requires c κs =
-    let start = c.before.before.before.before in
-    rw c.before.rows_at.ensures (value-asked _ start.requires.0 _ start.requires.1)
+    rw c.rows_at-rows.ensures (value-asked _ c.requires.0 _ c.requires.1)
 
 returns : tie.Need-returns
 unfolding first_row
-returns c = rw (c.size-at.ensures, c.before.before.rows_at.ensures)
+returns c = rw (c.size_at.ensures, c.rows_at-rows.ensures)
 
-pub with-value-spec : {M : Type 1} → statement M
-with-value-spec =
+pub with_value_spec : {M : Type 1} → statement M
+with_value_spec =
     tie.close
     (tie.spec (λ c. search rules) (λ c. search rules) (λ c. search rules) (λ c κs. search rules) (λ c. search rules) size-at-requires returns)

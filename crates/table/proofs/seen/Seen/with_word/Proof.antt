@@ -12,61 +12,58 @@ use Rattle.table.proofs.seen.Seen.with_word.Statement.{statement}
 use Rattle.table.proofs.seen.Seen.with_word.Tie as tie
 
 -- the word's kind has the number that the code compares
-named : (c : tie.After-kind-of) (k : TableKind) → c.kind-of.result ≡ table_number k → kind c.before.args.word ≡ table_number k
-named c k e = sym c.kind-of.ensures ∙ e
+named : (c : tie.After-kind_of-kind) (k : TableKind) → c.kind_of-kind.result ≡ table_number k → kind c.args.word ≡ table_number k
+named c k e = sym c.kind_of-kind.ensures ∙ e
 
-with-value-requires : tie.Need-with-value-requires
+with-value-requires : tie.Need-with_value-requires
 with-value-requires c κs =
-    let start = c.before.before in
-    (start.requires.0, (value-node _ _ _ start.requires.0 start.requires.1 start.requires.2 (named c.before value c.match.keys3)).1)
+    (c.requires.0, (value-node _ _ _ c.requires.0 c.requires.1 c.requires.2 (named c.before value c.in-9.is)).1)
 
-with-row-requires : tie.Need-with-row-requires
+with-row-requires : tie.Need-with_row-requires
 with-row-requires c κs =
-    let start = c.before.before in
-    blocked-asks _ _ _ start.requires.0 start.requires.1 start.requires.2 (named c.before blocked c.match.keys4)
+    blocked-asks _ _ _ c.requires.0 c.requires.1 c.requires.2 (named c.before blocked c.in-10.is)
 
-with-successor-requires : tie.Need-with-successor-requires
+with-successor-requires : tie.Need-with_successor-requires
 with-successor-requires c κs =
-    let start = c.before.before in
-    successor-asks _ _ _ start.requires.0 start.requires.1 start.requires.2 (named c.before successor c.match.keys5)
+    successor-asks _ _ _ c.requires.0 c.requires.1 c.requires.2 (named c.before successor c.in-11.is)
 
-returns : tie.Need-returns
+returns : tie.Need-returns-in-7
 unfolding seen_with_kind
-returns c = c.with-head.ensures ∙ seen_step _ _ _ _ table_head (named c.before.before table_head c.before.match.keys1)
+returns c = c.with_head.ensures ∙ seen_step _ _ _ _ table_head (named c.before.before table_head c.in-7.is)
 
-returns-2 : tie.Need-returns-2
+returns-2 : tie.Need-returns-in-8
 unfolding seen_with_kind
-returns-2 c = c.with-node.ensures ∙ seen_step _ _ _ _ node (named c.before.before node c.before.match.keys2)
+returns-2 c = c.with_node.ensures ∙ seen_step _ _ _ _ node (named c.before.before node c.in-8.is)
 
-returns-3 : tie.Need-returns-3
+returns-3 : tie.Need-returns-in-9
 unfolding seen_with_kind
-returns-3 c = c.with_value.ensures ∙ seen_step _ _ _ _ value (named c.before.before value c.before.match.keys3)
+returns-3 c = c.with_value.ensures ∙ seen_step _ _ _ _ value (named c.before.before value c.in-9.is)
 
-returns-4 : tie.Need-returns-4
+returns-4 : tie.Need-returns-in-10
 unfolding seen_with_kind
-returns-4 c = c.with_row.ensures ∙ seen_step _ _ _ _ blocked (named c.before.before blocked c.before.match.keys4)
+returns-4 c = c.with_row.ensures ∙ seen_step _ _ _ _ blocked (named c.before.before blocked c.in-10.is)
 
-returns-5 : tie.Need-returns-5
+returns-5 : tie.Need-returns-in-11
 unfolding seen_with_kind
-returns-5 c = c.with-successor.ensures ∙ seen_step _ _ _ _ successor (named c.before.before successor c.before.match.keys5)
+returns-5 c = c.with_successor.ensures ∙ seen_step _ _ _ _ successor (named c.before.before successor c.in-11.is)
 
-returns-6 : tie.Need-returns-6
+returns-6 : tie.Need-returns-in-12
 unfolding seen_with_kind
-returns-6 c = c.with-start.ensures ∙ seen_step _ _ _ _ start_node (named c.before.before start_node c.before.match.keys6)
+returns-6 c = c.with_start.ensures ∙ seen_step _ _ _ _ start_node (named c.before.before start_node c.in-12.is)
 
-returns-7 : tie.Need-returns-7
+returns-7 : tie.Need-returns-in-13
 unfolding seen_with_kind
-returns-7 c = c.with-cut.ensures ∙ seen_step _ _ _ _ cut (named c.before.before cut c.before.match.keys7)
+returns-7 c = c.with_cut.ensures ∙ seen_step _ _ _ _ cut (named c.before.before cut c.in-13.is)
 
-returns-8 : tie.Need-returns-8
+returns-8 : tie.Need-returns-in_default
 returns-8 c =
-    let read = c.before.kind-of.ensures in
-    let r = c.match.rest in
+    let read = c.kind_of-kind.ensures in
+    let r = c.in_default.in_default-own.rest in
     seen-stays _ _ _ _ (other-number read r.0.0.0.0.0.0.1) (other-number read r.0.0.0.0.0.1) (other-number read r.0.0.0.0.1)
     (other-number read r.0.0.0.1) (other-number read r.0.0.1) (other-number read r.0.1) (other-number read r.1)
 
-pub with-word-spec : {M : Type 1} → statement M
-with-word-spec =
+pub with_word_spec : {M : Type 1} → statement M
+with_word_spec =
     tie.close
     (tie.spec (λ c κs. search rules) (λ c κs. search rules) (λ c κs. search rules) with-value-requires with-row-requires
     with-successor-requires (λ c κs. search rules) (λ c κs. search rules) returns returns-2 returns-3 returns-4 returns-5 returns-6 returns-7

@@ -6,7 +6,7 @@ use Rattle.zone.proofs.bounds.Bound.excess.Tie as tie
 returns : tie.Need-returns
 returns c =
     let start = c.before.before.before.before in
-    is_excess start.args.self.key start.args.other.key c.before.before.struct_told.given.0.1 c.struct-told2.given.0.1
+    is_excess start.args.self.key start.args.other.key c.before.before.struct_told-1.given.0.1 c.struct_told-2-1.given.0.1
 
-pub excess-spec : {M : Type 1} → statement M
-excess-spec = tie.close (tie.spec returns)
+pub excess_spec : {M : Type 1} → statement M
+excess_spec = tie.close (tie.spec returns)

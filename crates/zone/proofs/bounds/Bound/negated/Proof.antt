@@ -10,11 +10,11 @@ use Rattle.zone.proofs.bounds.Bound.negated.Tie as tie
 small : (c : tie.Start) → mag c.args.self.key < 5 * 2 ^ 27
 small c = size-mag c.args.self c.requires
 
-sub-t2 : tie.Need-overflow-sub-t2
+sub-t2 : tie.Need-overflow_sub-result
 sub-t2 c = less-fits _ (omega arith) c.before.before.args.self.key (small c.before.before)
 
 returns : tie.Need-returns
 returns c = is-negated c.before.before.args.self (small c.before.before)
 
-pub negated-spec : {M : Type 1} → statement M
-negated-spec = tie.close (tie.spec sub-t2 returns)
+pub negated_spec : {M : Type 1} → statement M
+negated_spec = tie.close (tie.spec sub-t2 returns)

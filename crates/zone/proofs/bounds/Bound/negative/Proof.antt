@@ -8,5 +8,5 @@ returns : tie.Need-returns
 unfolding negative?
 returns c = c.tighter.ensures
 
-pub negative-spec : {M : Type 1} → statement M
-negative-spec = tie.close (tie.spec (λ c κs. search rules) returns)
+pub negative_spec : {M : Type 1} → statement M
+negative_spec = tie.close (tie.spec (λ c κs. search rules) returns)

@@ -13,11 +13,11 @@ first c = size-mag c.args.self c.requires.0
 second : (c : tie.Start) → mag c.args.other.key < 5 * 2 ^ 27
 second c = size-mag c.args.other c.requires.1
 
-add-t3 : tie.Need-overflow-add-t3
+add-t3 : tie.Need-overflow_add-result
 add-t3 c =
     let start = c.before.before.before.before in both-fits start.args.self.key start.args.other.key (first start) (second start)
 
-sub-t5 : tie.Need-overflow-sub-t5
+sub-t5 : tie.Need-overflow_sub-result
 sub-t5 c =
     let start = c.before.before.before.before.before in
     rest-fits start.args.self.key start.args.other.key (first start) (second start) c.excess.result c.excess.ensures
@@ -27,5 +27,5 @@ returns c =
     let start = c.before.before.before.before.before in
     is_sum start.args.self start.args.other (first start) (second start) c.excess.result c.excess.ensures
 
-pub sum-spec : {M : Type 1} → statement M
-sum-spec = tie.close (tie.spec add-t3 (λ c κs. search rules) sub-t5 returns)
+pub sum_spec : {M : Type 1} → statement M
+sum_spec = tie.close (tie.spec add-t3 (λ c κs. search rules) sub-t5 returns)

@@ -7,7 +7,7 @@ use Rattle.zone.proofs.bounds.Bound.tighter.Tie as tie
 
 returns : tie.Need-returns
 unfolding tighter?
-returns c = rw (back32 c.before.before.before.args.self.key c.before.struct_told.given.0.1, c.below.ensures)
+returns c = rw (back32 c.before.before.before.args.self.key c.before.struct_told-1.given.0.1, c.below.ensures)
 
-pub tighter-spec : {M : Type 1} → statement M
-tighter-spec = tie.close (tie.spec (λ c κs. search rules) returns)
+pub tighter_spec : {M : Type 1} → statement M
+tighter_spec = tie.close (tie.spec (λ c κs. search rules) returns)

@@ -37,27 +37,27 @@ next_row :
 next_row z i h l t =
     kept (stored t unbounded (omega arith) (upper z i h l)) ((i + 1) * 5) (omega arith) (λ k g m. not-upper z i k l g m)
 
-abbrev invariant-loop : tie.invariant-loop
+abbrev invariant-loop : tie.invariant-loop-i
 invariant-loop out₀ i₀ out i = (1 ≤ i) × (i ≤ 5) × Filled past_end 25 (delayed_square out₀).cells out₀.cells (i * 5) out.cells
 
-abbrev decreases-loop : tie.decreases-loop
+abbrev decreases-loop : tie.decreases-loop-i
 decreases-loop out₀ i₀ out i = 5 - i
 
-loop-holds : tie.Need-loop-init invariant-loop decreases-loop
+loop-holds : tie.Need-loop-i-init invariant-loop decreases-loop
 loop-holds c =
-    let size = simp length-map at c.well-formed.0.1.1.0.1.0.1 in
+    let size = c.well_formed.0.1.1.0.1.0.1 in
     (omega arith, omega arith, kept (unfilled size) 5 (omega arith) (λ k l m. first-row c.args.self k m))
 
-loop-again : tie.Need-loop-preserved invariant-loop decreases-loop
+loop-again : tie.Need-loop-i-preserved invariant-loop decreases-loop
 loop-again c =
-    let turn = c.before.loop in
+    let turn = c.before.loop-i in
     (omega arith, omega arith, next_row c.before.before.args.self turn.i (omega arith) (omega arith) turn.invariant.2)
 
 returns : tie.Need-returns invariant-loop decreases-loop
-returns c = filled c.before.loop.invariant.2 (list_of-length _ 25 0) (omega arith)
+returns c = filled c.before.loop-i.invariant.2 (list_of-length _ 25 0) (omega arith)
 
-pub delay-spec : {M : Type 1} → statement M
-delay-spec =
+pub delay_spec : {M : Type 1} → statement M
+delay_spec =
     tie.close
     (tie.spec invariant-loop decreases-loop loop-holds (λ c. search rules) (λ c. search rules) (λ c. search rules) (λ c. search rules) (λ c. search rules)
     loop-again returns)

@@ -10,7 +10,7 @@ tighten-requires c κs =
     let b = c.before in
     let j = b.before in
     let i = j.before in
-    holding-fits i.before.requires i.first-clock.ensures j.second-clock.ensures b.bound_of.ensures c.with_bound_lem.ensures
+    holding-fits i.before.requires i.first_clock-i.ensures j.second_clock-j.ensures b.bound_of.ensures c.with_bound.ensures
 
 returns : tie.Need-returns
 returns c =
@@ -19,10 +19,10 @@ returns c =
     let j = b.before in
     let i = j.before in
     c.tighten.ensures
-    ∙ is-holding i.before.requires i.first-clock.ensures j.second-clock.ensures b.bound_of.ensures z.with_bound_lem.ensures
+    ∙ is-holding i.before.requires i.first_clock-i.ensures j.second_clock-j.ensures b.bound_of.ensures z.with_bound.ensures
 
-pub holding-part-spec : {M : Type 1} → statement M
-holding-part-spec =
+pub holding_part_spec : {M : Type 1} → statement M
+holding_part_spec =
     tie.close
     (tie.spec (λ c κs. search rules) (λ c. search rules) (λ c κs. search rules) (λ c. search rules) (λ c κs. search rules) (λ c κs. search rules)
     tighten-requires returns)

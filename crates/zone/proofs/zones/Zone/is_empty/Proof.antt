@@ -11,27 +11,27 @@ use Rattle.zone.proofs.Loops.{some_more, on-diagonal}
 use Rattle.zone.proofs.zones.Zone.is_empty.Statement.{statement}
 use Rattle.zone.proofs.zones.Zone.is_empty.Tie as tie
 
-abbrev invariant-loop : tie.invariant-loop
+abbrev invariant-loop : tie.invariant-loop-i
 invariant-loop self empty₀ i₀ empty i = (i ≤ 5) × (empty ≡ not (all? i (λ k. not (negative? (cell self k k)))))
 
-abbrev decreases-loop : tie.decreases-loop
+abbrev decreases-loop : tie.decreases-loop-i
 decreases-loop self empty₀ i₀ empty i = 5 - i
 
-loop-holds : tie.Need-loop-init invariant-loop decreases-loop
+loop-holds : tie.Need-loop-i-init invariant-loop decreases-loop
 unfolding all?
 loop-holds c = (omega arith, refl)
 
-loop-again : tie.Need-loop-preserved invariant-loop decreases-loop
+loop-again : tie.Need-loop-i-preserved invariant-loop decreases-loop
 loop-again c =
-    let turn = c.before.before.before.loop in
-    let zone = c.before.before.before.before.args.t1 in (
+    let turn = c.before.before.before.loop-i in
+    let zone = c.before.before.before.before.args.self in (
       omega arith,
-      some_more turn.i _ turn.invariant.1 (c.negative.ensures ∙ ap negative? (sym (on-diagonal zone turn.i)) ∙ sym (not-not _)),
+      some_more turn.i _ turn.invariant.1 (c.negative-empty.ensures ∙ ap negative? (sym (on-diagonal zone turn.i)) ∙ sym (not-not _)),
     )
 
 returns : tie.Need-returns invariant-loop decreases-loop
 unfolding empty?
-returns c = let e : c.before.loop.i ≡ 5 = omega arith in rw e at c.before.loop.invariant.1
+returns c = let e : c.before.loop-i.i ≡ 5 = omega arith in rw e at c.before.loop-i.invariant.1
 
 pub is_empty_spec : {M : Type 1} → statement M
 is_empty_spec =

@@ -10,7 +10,7 @@ negated-requires : tie.Need-negated-requires
 negated-requires c κs =
     let j = c.before in
     let i = j.before in
-    bound-small i.before.requires i.first-clock.ensures j.second-clock.ensures c.bound_of.ensures
+    bound-small i.before.requires i.first_clock-i.ensures j.second_clock-j.ensures c.bound_of.ensures
 
 tighten-requires : tie.Need-tighten-requires
 tighten-requires c κs =
@@ -18,8 +18,8 @@ tighten-requires c κs =
     let b = n.before in
     let j = b.before in
     let i = j.before in
-    rest-fits i.before.requires i.first-clock.ensures j.second-clock.ensures b.bound_of.ensures
-    (rw (← n.negated.ensures) c.with_bound_lem.ensures)
+    rest-fits i.before.requires i.first_clock-i.ensures j.second_clock-j.ensures b.bound_of.ensures
+    (rw (← n.negated.ensures) c.with_bound.ensures)
 
 returns : tie.Need-returns
 returns c =
@@ -29,11 +29,11 @@ returns c =
     let j = b.before in
     let i = j.before in
     c.tighten.ensures
-    ∙ is-rest i.before.requires i.first-clock.ensures j.second-clock.ensures b.bound_of.ensures
-    (rw (← n.negated.ensures) z.with_bound_lem.ensures)
+    ∙ is-rest i.before.requires i.first_clock-i.ensures j.second_clock-j.ensures b.bound_of.ensures
+    (rw (← n.negated.ensures) z.with_bound.ensures)
 
-pub rest-part-spec : {M : Type 1} → statement M
-rest-part-spec =
+pub rest_part_spec : {M : Type 1} → statement M
+rest_part_spec =
     tie.close
     (tie.spec (λ c κs. search rules) (λ c. search rules) (λ c κs. search rules) (λ c. search rules) (λ c κs. search rules) negated-requires
     (λ c κs. search rules) tighten-requires returns)

@@ -8,5 +8,5 @@ returns : tie.Need-returns
 unfolding list_of
 returns c = refl
 
-pub universe-spec : {M : Type 1} → statement M
-universe-spec = tie.close (tie.spec returns)
+pub universe_spec : {M : Type 1} → statement M
+universe_spec = tie.close (tie.spec returns)

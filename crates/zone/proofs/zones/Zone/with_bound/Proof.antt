@@ -1,15 +1,15 @@
--- Proof of `Zone::with_bound_lem`: the cell of the two clocks has the tighter bound.
+-- Proof of `Zone::with_bound`: the cell of the two clocks has the tighter bound.
 use borrow.Author.Rules.{rules}
 use Rattle.zone.specs.Squares.{with_bound}
-use Rattle.zone.proofs.zones.Zone.with_bound_lem.Statement.{statement}
-use Rattle.zone.proofs.zones.Zone.with_bound_lem.Tie as tie
+use Rattle.zone.proofs.zones.Zone.with_bound.Statement.{statement}
+use Rattle.zone.proofs.zones.Zone.with_bound.Tie as tie
 
 returns : tie.Need-returns
 unfolding with_bound
-returns c = rw c.tighter-of.ensures.0
+returns c = rw c.tighter_of.ensures.0
 
-pub with-bound-spec : {M : Type 1} → statement M
-with-bound-spec =
+pub with_bound_spec : {M : Type 1} → statement M
+with_bound_spec =
     tie.close
     (tie.spec (λ c. search rules) (λ c. search rules) (λ c. search rules) (λ c. search rules) (λ c κs. search rules) (λ c. search rules)
     (λ c. search rules) returns)
