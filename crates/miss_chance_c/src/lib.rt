@@ -1,6 +1,7 @@
 // The seven calls of `miss_chance` as a static library for C and Rust, under the same names and with the same promises. A slice passes as a pointer and then
 // a length.
 #![tactic(auto)]
+
 ghost use Rattle.zone.specs.Questions.{AskedEmpty, AskedInside};
 ghost use Rattle.model.specs.Reading.{ReadModel};
 ghost use Rattle.board.specs.Board.{board};
