@@ -417,8 +417,9 @@ real=${JUDGE_PROGRAM:-$root/target/bin/judge_cli}
 real_drafter=${DRAFT_PROGRAM:-$root/target/bin/draft_cli}
 copy="$work/a copy"
 tools="$work/tools"
-mkdir -p "$copy/crates/judge_cli/src" "$tools" "$work/with"
+mkdir -p "$copy/crates/judge_cli/src" "$copy/crates/draft_cli" "$copy/tools" "$tools" "$work/with"
 cp "$judge" "$copy/judge"
+cp "$root/tools/build.sh" "$copy/tools/build.sh"
 touch "$copy/crates.txt" "$copy/crates/judge_cli/src/main.rt"
 for tool in awk bash cat dirname env head mkdir mktemp od readlink rm tail touch tr wc; do
     ln -s "$(type -P $tool)" "$tools/$tool"
@@ -429,10 +430,10 @@ echo "said by rt in \$PWD: \$*"
 echo run >>"$work/runs"
 [[ ! -e "$work/broken" ]] || exit 1
 [[ ! -e "$work/lazy" ]] || exit 0
-mkdir -p target/bin
-case \$2 in
-judge_cli) cp "$real" target/bin/judge_cli ;;
-draft_cli) cp "$real_drafter" target/bin/draft_cli ;;
+mkdir -p out
+case \${PWD##*/} in
+judge_cli) cp "$real" out/judge_cli ;;
+draft_cli) cp "$real_drafter" out/draft_cli ;;
 esac
 END
 chmod +x "$work/with/rt"
@@ -452,7 +453,7 @@ mum 'bad input is told before a build' 'no such file' env -u JUDGE_PROGRAM "PATH
 builds 'bad input' 0
 touch "$work/broken"
 mum 'a build that fails' 'could not be built' "${ask[@]}"
-mum 'the last lines of its log are shown' "said by rt in $copy: check judge_cli" "${ask[@]}"
+mum 'the last lines of its log are shown' "said by rt in $copy/crates/judge_cli: run" "${ask[@]}"
 builds 'a build that fails is tried again' 2
 rm "$work/broken"
 touch "$work/lazy"
@@ -490,10 +491,10 @@ mum 'a draft by a program that is not built' 'rt, the Rattle toolchain' env -u D
 mum 'bad rounds are told before a build' 'no number of rounds' "${ask_draft[@]}" many
 builds 'bad rounds' 7
 touch "$work/broken"
-mum 'a drafting program that cannot be built' "said by rt in $copy: check draft_cli" "${ask_draft[@]}"
+mum 'a drafting program that cannot be built' "said by rt in $copy/crates/draft_cli: run" "${ask_draft[@]}"
 rm "$work/broken"
 run "${ask_draft[@]}"
-if grep -q 'rt check draft_cli' "$work/err"; then ok; else wrong 'a build of the drafting program is not announced'; fi
+if grep -q 'tools/build.sh draft_cli' "$work/err"; then ok; else wrong 'a build of the drafting program is not announced'; fi
 drafts 'no second build of it' 100000 3 $model "${ask_draft[@]}"
 builds 'the drafting program' 9
 drafts 'a draft with bash, coreutils and awk alone' 100000 3 $model env -u DRAFT_PROGRAM "PATH=$tools" "$copy/judge" --draft "$here/model"

@@ -8,8 +8,7 @@ unset JUDGE_PROGRAM DRAFT_PROGRAM MISS_CHANCE_LIB_DIR # the proved programs and 
 build() { # quiet unless it fails
     "$@" >target/log/outside.out 2>&1 || { cat target/log/outside.out; exit 1; }
 }
-build rt staticlib miss_chance
-build rt check judge_cli draft_cli
+build tools/build.sh
 
 echo "== no branch in the methods of a bound and of a zone"
 for methods in 'impl Bound' 'impl Zone'; do # by their source: document 02, card 2

@@ -32,7 +32,7 @@ missing() {
         echo "FAILED: built without $path"
         exit 1
     fi
-    for part in "$path is not there" "\`rt staticlib miss_chance\`" "set MISS_CHANCE_LIB_DIR"; do
+    for part in "$path is not there" "\`tools/build.sh miss_chance\`" "set MISS_CHANCE_LIB_DIR"; do
         [[ $said = *"$part"* ]] || { printf 'FAILED: no "%s" in what cargo says without the library:\n%s\n' "$part" "$said"; exit 1; }
     done
     [[ $said != *panicked* ]] || { printf 'FAILED: a panic in place of a message:\n%s\n' "$said"; exit 1; }

@@ -2,7 +2,7 @@
  * A priority engine's board: two teams submit tables for document 01's worked timeline M, then one of them for the other's slot, and the held
  * slots are ranked. From the repository's root:
  *
- *   rt staticlib miss_chance
+ *   tools/build.sh miss_chance
  *   gcc -std=c99 -Wall -Wextra -pedantic -Ibindings/c bindings/c/board.c target/staticlib/libmiss_chance.a -o target/board
  *   target/board
  *

@@ -2,7 +2,7 @@
  * Drafts a table for document 01's worked timeline M, with no round and then with two, and has the judge say what each certifies; then with too
  * few words lent. From the repository's root:
  *
- *   rt staticlib miss_chance
+ *   tools/build.sh miss_chance
  *   gcc -std=c99 -Wall -Wextra -pedantic -Ibindings/c bindings/c/draft.c target/staticlib/libmiss_chance.a -o target/draft
  *   target/draft
  *

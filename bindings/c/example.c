@@ -1,7 +1,7 @@
 /*
  * Judges document 01's worked timeline M with its table T, then with T's word 3 made too small. From the repository's root:
  *
- *   rt staticlib miss_chance
+ *   tools/build.sh miss_chance
  *   gcc -std=c99 -Wall -Wextra -pedantic -Ibindings/c bindings/c/example.c target/staticlib/libmiss_chance.a -o target/example
  *   target/example
  *

@@ -2,7 +2,7 @@
  * The miss-chance judge, for C and C++: five calls over lists of 32-bit words and two over a board of slots, as document 01 ("The miss-chance
  * judge: timelines, tables and the bound they certify") and document 02, the change requests to it, define them; docs/FORMAT.md of the
  * repository says what the words are, docs/REFUSALS.md what each refusal means. Link with target/staticlib/libmiss_chance.a, which
- * `rt staticlib miss_chance` proves and writes at the repository's root (x86-64, System V calling convention).
+ * `tools/build.sh miss_chance` proves and writes at the repository's root (x86-64, System V calling convention).
  *
  * THE ANSWER. Each of the five calls writes its answer to the first four words of `answer` and returns true:
  *

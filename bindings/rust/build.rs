@@ -1,5 +1,5 @@
 //! Links libmiss_chance.a, from the folder that `MISS_CHANCE_LIB_DIR` names or else from where
-//! `rt staticlib miss_chance` writes it in the repository around this package.
+//! `tools/build.sh miss_chance` writes it in the repository around this package.
 
 use std::path::{absolute, Path};
 use std::{env, io};
@@ -21,7 +21,7 @@ fn main() -> io::Result<()> {
         println!("cargo::rustc-link-lib=static=miss_chance");
     } else {
         println!(
-            "cargo::error=the library {} is not there: run `rt staticlib miss_chance` at the root of \
+            "cargo::error=the library {} is not there: run `tools/build.sh miss_chance` at the root of \
              the judge's repository, which proves and writes target/staticlib/libmiss_chance.a, or \
              set {VARIABLE} to the folder that has it",
             library.display()

@@ -1,6 +1,6 @@
 //! A priority engine's board: two teams submit tables for document 01's worked timeline M, then one
 //! of them for the other's slot, and the held slots are ranked. In this folder, once
-//! `rt staticlib miss_chance` has written the library:
+//! `tools/build.sh miss_chance` has written the library:
 //!
 //!     cargo run --example board
 //!

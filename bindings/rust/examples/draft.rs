@@ -1,6 +1,6 @@
 //! Drafts a table for document 01's worked timeline M, with no round and then with two, and has the
 //! judge say what each certifies; then with too few words lent. In this folder, once
-//! `rt staticlib miss_chance` has written the library:
+//! `tools/build.sh miss_chance` has written the library:
 //!
 //!     cargo run --example draft
 //!

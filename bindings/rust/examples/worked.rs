@@ -1,5 +1,5 @@
 //! Judges document 01's worked timeline M with its table T, then with T's word 3 made too small. In
-//! this folder, once `rt staticlib miss_chance` has written the library:
+//! this folder, once `tools/build.sh miss_chance` has written the library:
 //!
 //!     cargo run --example worked
 //!

@@ -47,7 +47,7 @@
 //!
 //! # The library
 //!
-//! `rt staticlib miss_chance`, at the root of the judge's repository, proves it and writes
+//! `tools/build.sh miss_chance`, at the root of the judge's repository, proves it and writes
 //! `target/staticlib/libmiss_chance.a`, where this package looks for it. If it stands elsewhere,
 //! set `MISS_CHANCE_LIB_DIR` to its folder, as an absolute path.
 //!

@@ -1,6 +1,6 @@
 // Words as lines of text: eight hex digits each, in capitals.
 ghost use Rattle.std.specs.Prelude.{◌≡◌, ◌+◌, ◌*◌, ◌<◌, ◌≤◌, ◌++◌, length, take};
-ghost use Rattle.io.specs.Counts.{IsPrefixLen};
+ghost use Rattle.std.specs.Counts.{IsPrefixLen};
 ghost use Rattle.draft_cli.specs.Text.{hex_digit, word_line, lines_of};
 
 // The digit of a number below 16.

@@ -1,5 +1,8 @@
 // The program that drafts: standard input, the number of rounds and then a model, to the words of a table on standard output, or a refusal.
-ghost use Rattle.std.specs.Prelude.{◌≤◌};
+#![tactic(auto)]
+
+ghost use Rattle.std.specs.Prelude.{◌≤◌, take, OnOk};
+ghost use Rattle.std.specs.Io.KnownBytes.{Appends};
 
 mod lines; // lines.rt: words as lines of text
 mod program; // program.rt: from the bytes of the input to the draft
@@ -7,37 +10,35 @@ mod program; // program.rt: from the bytes of the input to the draft
 use crate::program::{DRAFT_WORDS, READ_BYTES};
 use judge_line::text;
 use judge_line::text::Line;
-use libc::{STDERR_FILENO, STDOUT_FILENO};
+use std::io;
+use std::io::Write;
 
 // How many bytes the longest table takes, nine to a word.
 const TEXT_BYTES: usize = 86418;
 
 // Writes a line.
-fn say(line: Line)
+fn say<W: Write>(out: &mut W, line: Line) -> io::Result<()>
     requires { line.count ≤ 72 }
+    ensures { OnOk result (Appends (W.contents out.old) (W.contents out.new) (take line.count line.bytes)) }
 {
-    let text = line.bytes;
-    io::write_all(STDOUT_FILENO, &text[..line.count]);
+    out.write_all(&line.bytes[..line.count])
 }
 
-fn main() {
+fn main(rt: HostRuntime) -> io::Result<()> {
     let mut bytes = [0u8; READ_BYTES];
-    let input = input::read_input(&mut bytes);
+    let input = input::read_input(&mut rt.stdin(), &mut bytes);
     if input.failed {
-        io::write_all(
-            STDERR_FILENO,
-            b"draft_cli: standard input could not be read to its end\n",
-        );
-        return;
+        return rt.stderr().write_all(b"draft_cli: standard input could not be read to its end\n");
     }
-    let count = input.count;
     let mut table = [0u32; DRAFT_WORDS];
-    let told = program::drafted(&bytes[..count], &mut table);
+    let told = program::drafted(&bytes[..input.count], &mut table);
     if told.number != 0 {
-        say(text::refused_line(told.number, told.place));
-        return;
+        return say(
+            &mut rt.stdout(),
+            text::refused_line(told.number, told.place),
+        );
     }
     let mut text = [0u8; TEXT_BYTES];
     let size = lines::to_lines(&table, told.length, &mut text);
-    io::write_all(STDOUT_FILENO, &text[..size]);
+    rt.stdout().write_all(&text[..size])
 }

@@ -1,7 +1,11 @@
-// The whole of standard input, for the programs.
-ghost use Rattle.io.specs.Counts.{IsPrefixLen};
+// The whole of an input, for the programs.
+#![tactic(auto)]
 
-use libc::STDIN_FILENO;
+ghost use Rattle.std.specs.Prelude.{◌≡◌, ◌<◌, false, length, take};
+ghost use Rattle.std.specs.Io.KnownBytes.{Consumes, IsAtEnd};
+ghost use Rattle.std.specs.Counts.{IsPrefixLen};
+
+use std::io::Read;
 
 // How many bytes were read, and whether a read failed. If none did, the input has ended or fills the buffer.
 #[derive(Drop)]
@@ -10,25 +14,30 @@ pub struct Input {
     pub failed: bool,
 }
 
-// Reads standard input until the buffer is full, the input ends or a read fails. `io::read_full` does not tell the last two apart, and what
-// came before a failed read is not the input.
-pub fn read_input(bytes: &mut [u8]) -> Input
-    ensures { IsPrefixLen result.count bytes.new }
+// Reads until the buffer is full, the input ends or a read fails. std's `read_to_end` reads again where a read was interrupted, and what came before a
+// failed read is not the input.
+pub fn read_input<R: Read>(reader: &mut R, bytes: &mut [u8]) -> Input
+    ensures counts { IsPrefixLen result.count bytes.new }
+    ensures reads { Consumes (R.remaining reader.old) (R.remaining reader.new) (take result.count bytes.new) }
+    ensures ends { result.failed ≡ false → result.count < length bytes.new → IsAtEnd (R.remaining reader.new) }
 {
     let mut count = 0;
     while count < bytes.len() {
-        let got = libc::read(STDIN_FILENO, &mut bytes[count..]);
-        if got < 0 {
-            return Input {
-                count,
-                failed: true,
-            };
+        match reader.read(&mut bytes[count..]) {
+            Ok(0) => {
+                return Input {
+                    count,
+                    failed: false,
+                };
+            }
+            Ok(more) => count += more,
+            Err(_) => {
+                return Input {
+                    count,
+                    failed: true,
+                };
+            }
         }
-        let more = io::count(got, &bytes[count..]);
-        if more == 0 {
-            break;
-        }
-        count += more;
     }
     Input {
         count,

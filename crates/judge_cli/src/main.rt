@@ -1,20 +1,17 @@
 // The program: standard input to one line on standard output.
+#![tactic(auto)]
+
 use judge_line::program;
 use judge_line::program::READ_BYTES;
-use libc::{STDERR_FILENO, STDOUT_FILENO};
+use std::io;
+use std::io::Write;
 
-fn main() {
+fn main(rt: HostRuntime) -> io::Result<()> {
     let mut bytes = [0u8; READ_BYTES];
-    let input = input::read_input(&mut bytes);
+    let input = input::read_input(&mut rt.stdin(), &mut bytes);
     if input.failed {
-        io::write_all(
-            STDERR_FILENO,
-            b"judge_cli: standard input could not be read to its end\n",
-        );
-        return;
+        return rt.stderr().write_all(b"judge_cli: standard input could not be read to its end\n");
     }
-    let count = input.count;
-    let line = program::line_of(&bytes[..count]);
-    let text = line.bytes;
-    io::write_all(STDOUT_FILENO, &text[..line.count]);
+    let line = program::line_of(&bytes[..input.count]);
+    rt.stdout().write_all(&line.bytes[..line.count])
 }

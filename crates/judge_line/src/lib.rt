@@ -1,4 +1,6 @@
 // The program but for its reading and writing: from the bytes of a file to the line that says what the judge made of it.
+#![tactic(auto)]
+
 pub mod words; // words.rt: the words of the bytes
 mod parts; // parts.rt: which of the words are the table
 pub mod text; // text.rt: a line of text, and the line of an answer

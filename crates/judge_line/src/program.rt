@@ -1,6 +1,6 @@
 // From the bytes of a file to the line that the program prints.
 ghost use Rattle.std.specs.Prelude.{take};
-ghost use Rattle.io.specs.Counts.{IsPrefixLen};
+ghost use Rattle.std.specs.Counts.{IsPrefixLen};
 ghost use Rattle.judge_line.specs.Program.{Prints};
 
 use crate::text::Line;
@@ -14,7 +14,7 @@ const MOST_WORDS: usize = 16384;
 
 pub const READ_BYTES: usize = 65537;
 
-// The line of a file's bytes: 42 and 41 before anything is read as words, then the verdict on the model and the table. `counts` (of the crate io)
+// The line of a file's bytes: 42 and 41 before anything is read as words, then the verdict on the model and the table. `counts`
 // says that the line's count is within its bytes.
 pub fn line_of(bytes: &[u8]) -> Line
     ensures prints { Prints bytes.now (take result.count result.bytes) }

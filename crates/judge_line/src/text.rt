@@ -5,6 +5,7 @@ ghost use Rattle.judge_line.specs.Text.{decimal, line_of};
 ghost use Rattle.judge_line.specs.Filling.{shown};
 
 use acceptance::certificate::Certificate;
+use itoa::Buffer;
 
 // The longest line has three numbers of at most twenty digits.
 pub const LONGEST: usize = 72;
@@ -29,9 +30,9 @@ impl Line {
     {
         let mut line = self;
         for k in 0..text.len() {
-            line.bytes[self.count + k] = text[k];
+            line.bytes[line.count + k] = text[k];
         }
-        line.count = self.count + text.len();
+        line.count += text.len();
         line
     }
 
@@ -40,9 +41,8 @@ impl Line {
         requires { self.count + 20 ≤ 72 }
         ensures { (shown result ≡ shown self ++ decimal n) × (result.count ≤ self.count + 20) }
     {
-        let mut digits = [0u8; 20];
-        let count = io::decimal(n, &mut digits);
-        self.with_text(&digits[..count])
+        let mut digits = Buffer::new();
+        self.with_text(digits.format(n).as_bytes())
     }
 }
 
