@@ -225,7 +225,8 @@ module _ {F : ℕ → ℕ → Graph → Graph} {each total : ℕ} {nodes₀ code
           }
 
       one-turn : goal ≡ go_on (graph_of y nodes' codes') (F (last - suc k) (suc k))
-      one-turn = i.onward ∙ rw (one_left last k h, one, e)
+      one-turn =
+          i.onward ∙ rw (one_left last k h) (one _ _ _ ∙ ap (λ (d : Graph). go_on d (F (last - suc k) (suc k))) (sym e))
 
       pub turn-stops : (y.stop ≡ stop.None → ⊥) → Grown nodes₀ codes₀ nodes' codes' x₀ y total × (graph_of y nodes' codes' ≡ goal)
       turn-stops n = (grown-more, sym (one-turn ∙ ended y.stop _ _ n))

@@ -54,13 +54,13 @@ module _ (count : ℕ) (few : count ≤ 64) {M : Model} {F : Found} where
       ap₂ ◌∷◌ (ap (λ (k : ℕ). row_word (code_of k s.outside)) h.node ∙ row_word_lem n s.outside (N.lt_of_lt_of_le g.0 few))
       (shares-words hs g.1)
 
-  rows_words : {As : List Action} {rs : List FoundRow} {sss : List (List Share)} → ShareRows M F As rs sss → RowsWritable count As rs →
+  rows_words_lem : {As : List Action} {rs : List FoundRow} {sss : List (List Share)} → ShareRows M F As rs sss → RowsWritable count As rs →
       map row_word (rows_codes rs sss) ≡ rows_words rs
   unfolding rows_codes rows_words row_words row_word
-  rows_words no_row g = refl
-  rows_words (pass_blocked h) g = ap (λ (ws : List ℕ). word 10 0 ∷ ws) (rows_words h g.1)
-  rows_words (next_row {ss = ss} {rs = rs} {sss} s h) g =
-      map-append row_word (share_codes ss) (rows_codes rs sss) ∙ ap₂ ◌++◌ (shares-words s g.0.2) (rows_words h g.1)
+  rows_words_lem no_row g = refl
+  rows_words_lem (pass_blocked h) g = ap (λ (ws : List ℕ). word 10 0 ∷ ws) (rows_words_lem h g.1)
+  rows_words_lem (next_row {ss = ss} {rs = rs} {sss} s h) g =
+      map-append row_word (share_codes ss) (rows_codes rs sss) ∙ ap₂ ◌++◌ (shares-words s g.0.2) (rows_words_lem h g.1)
 
 -- ---- the codes of a node
 slice-take : (b n : ℕ) (l : List ℕ) → drop b (take (b + n) l) ≡ take n (drop b l)
@@ -117,4 +117,4 @@ text-right {M} {Fs} {rows} {qs} {nodes} {codes} {ends} {count} formed found valu
     each i l =
         rw (N.zero-add i, get_or-take count vs i 0 (rw stored.size l))
         (node-text (stored_at valued stored i l) vs
-        (rows_words (length Fs) found.ready.few (valued-at valued i l).rows (rows_writable formed found i l)))
+        (rows_words_lem (length Fs) found.ready.few (valued-at valued i l).rows (rows_writable formed found i l)))

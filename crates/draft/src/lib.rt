@@ -1,5 +1,6 @@
 // A table drafted for a model: document 02, card 5.
 #![tactic(auto)]
+
 mod fronts; // fronts.rt: the words of a node's location and bounds
 mod nodes; // nodes.rt: the nodes found, in a store of words
 mod explore; // explore.rt: nodes in order of discovery, then by action and edge

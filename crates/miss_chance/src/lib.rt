@@ -2,6 +2,7 @@
 // answer to the first four words of a slice that the caller lends, and returns true; where the slice has fewer than four it writes nothing and returns false.
 // The two of the board, card 3, hand structs over and back by value; they are the board's calls from Rattle too.
 #![tactic(auto)]
+
 mod replies; // replies.rt: each answer as four words
 
 ghost use Rattle.zone.specs.Questions.{AskedEmpty, AskedInside};

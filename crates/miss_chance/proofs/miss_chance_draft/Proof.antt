@@ -5,15 +5,13 @@ use Rattle.miss_chance.proofs.ReplyLaws.{draft-not-written, draft-written}
 use Rattle.miss_chance.proofs.miss_chance_draft.Statement.{statement}
 use Rattle.miss_chance.proofs.miss_chance_draft.Tie as tie
 
-returns-2 : tie.Need-returns-2
+returns-2 : tie.Need-returns
 returns-2 c =
-    let told = c.before.before.before.before in
-    let asked = told.before.before.before in
-    draft-written _ _ _ _ told.of-draft.result _ asked.before.before.if1.false
-    (record { drafted = asked.draft.ensures.0; certifies = asked.draft.ensures.1 }) told.of-draft.ensures c.before.before.put.ensures
+    draft-written _ _ _ _ c.of_draft.result _ c.if-answer-lt4.false
+    (record { drafted = c.draft.ensures.0; certifies = c.draft.ensures.1 }) c.of_draft.ensures c.put.ensures
 
-pub miss-chance-draft-spec : {M : Type 1} → statement M
-miss-chance-draft-spec =
+pub miss_chance_draft_spec : {M : Type 1} → statement M
+miss_chance_draft_spec =
     tie.close
-    (tie.spec (λ c. draft-not-written _ _ _ _ c.if1.true) (λ c κs. search rules) (λ c κs. search rules) (λ c κs. search rules)
+    (tie.spec (λ c. draft-not-written _ _ _ _ c.if-answer-lt4.true) (λ c κs. search rules) (λ c κs. search rules) (λ c κs. search rules)
     (λ c. search rules) (λ c. search rules) returns-2)

@@ -4,15 +4,13 @@ use Rattle.miss_chance.proofs.ReplyLaws.{not_written, written}
 use Rattle.miss_chance.proofs.miss_chance_judge.Statement.{statement}
 use Rattle.miss_chance.proofs.miss_chance_judge.Tie as tie
 
-returns-2 : tie.Need-returns-2
+returns-2 : tie.Need-returns
 returns-2 c =
-    let told = c.before.before.before.before in
-    let asked = told.before in
-    written _ _ _ told.of-verdict.result _ asked.before.if1.false
-    (record { judged = asked.judge.ensures.0; exactly = asked.judge.ensures.1.0; bounds = asked.judge.ensures.1.1 })
-    told.of-verdict.ensures c.before.before.put.ensures
+    written _ _ _ c.of_verdict.result _ c.if-answer-lt4.false
+    (record { judged = c.judge.ensures.0; exactly = c.judge.ensures.1.0; bounds = c.judge.ensures.1.1 })
+    c.of_verdict.ensures c.put.ensures
 
-pub miss-chance-judge-spec : {M : Type 1} → statement M
-miss-chance-judge-spec =
+pub miss_chance_judge_spec : {M : Type 1} → statement M
+miss_chance_judge_spec =
     tie.close
-    (tie.spec (λ c. not_written _ _ _ c.if1.true) (λ c κs. search rules) (λ c κs. search rules) (λ c κs. search rules) (λ c. search rules) returns-2)
+    (tie.spec (λ c. not_written _ _ _ c.if-answer-lt4.true) (λ c κs. search rules) (λ c κs. search rules) (λ c κs. search rules) (λ c. search rules) returns-2)

@@ -18,117 +18,100 @@ use Rattle.draft.proofs.call.draft.Tie as tie
 -- ---- what is known on the way
 
 -- once the model is read: its words, the rounds, the lent words, and what it leaves in the stores
-abbrev begun : tie.After-index-model → tie.Start
+abbrev begun : tie.After-index_model-model_read → tie.Start
 begun c = c.before.before.before.before.before
 
-abbrev words : tie.After-index-model → List ℕ
-words c = (begun c).args.model.now
+abbrev words : tie.After-index_model-model_read → List ℕ
+words c = c.args.model.now
 
-abbrev rounds : tie.After-index-model → ℕ
-rounds c = (begun c).args.rounds
+abbrev rounds : tie.After-index_model-model_read → ℕ
+rounds c = c.args.rounds
 
-abbrev lent : tie.After-index-model → List ℕ
-lent c = (begun c).args.lent.now
+abbrev lent : tie.After-index_model-model_read → List ℕ
+lent c = c.args.lent.now
 
-abbrev edges : tie.After-index-model → List ℕ
-edges c = c.index-model.new.1.0
+abbrev edges : tie.After-index_model-model_read → List ℕ
+edges c = c.index_model-model_read.new.edges
 
-abbrev zones : tie.After-index-model → List ℤ
-zones c = c.index-model.new.1.1.0
+abbrev zones : tie.After-index_model-model_read → List ℤ
+zones c = c.index_model-model_read.new.zones
 
 -- the model is accepted
-abbrev read : tie.After-enum-told → tie.After-index-model
-read c = c.before.before.before.before
+abbrev read : tie.In-Accepted → tie.After-index_model-model_read
+read c = c.before.before.before
 
-model-room : (c : tie.After-zones2) → let m = c.before.before in StoresFit (edges m) (zones m)
+model-room : (c : tie.After-zones-2-1) → StoresFit (edges c.before.before) (zones c.before.before)
 model-room c =
-    let m = c.before.before in
-    let e : 128 ≤ length (edges m) = search rules in
-    let z : 1225 ≤ length (zones m) = search rules in
+    let e : 128 ≤ length (edges c.before.before) = search rules in
+    let z : 1225 ≤ length (zones c.before.before) = search rules in
     record { edges = e; zones = z }
 
-model-accepted : (c : tie.After-enum-told) → let m = read c in ModelAccepted (words m) m.index-model.result (edges m) (zones m)
+model-accepted : (c : tie.In-Accepted) → ModelAccepted (words c.before.before.before) c.index_model-model_read.result (edges c.before.before.before) (zones c.before.before.before)
 model-accepted c = record {
-  reads = (read c).index-model.ensures.0;
-  index = (read c).index-model.ensures.1.0;
-  room = model-room c.before.before;
+  reads = c.index_model-model_read.ensures.0;
+  index = c.index_model-model_read.ensures.1.0;
+  room = model-room c.before;
   counts = _;
-  accepts = c.enum_told.given.1;
+  accepts = c.in-Accepted.is;
 }
 
 -- the start node is placed
-abbrev told : tie.After-start → tie.After-enum-told
-told c = c.before.before.before
+abbrev told : tie.After-start-start → tie.In-Accepted
+told c = c.before.before.before.before
 
-abbrev first : tie.After-start → List ℕ
-first c = c.start.new.1.1.0
+abbrev first : tie.After-start-start → List ℕ
+first c = c.start-start.new.nodes
 
 -- ---- the needs
 
-returns : tie.Need-returns
+returns : tie.Need-returns-in_default
 returns c =
-    let r = c.before.before.before.before in
-    refused-model (words r) (rounds r) (lent r) _ _ r.index-model.ensures.0 c.model-refused.ensures
-    (λ counts q. miss (1 ∷ 2 ∷ 3 ∷ 4 ∷ 5 ∷ 6 ∷ []) 0 tt (rw q at c.before.match.keys2))
+    refused-model (words c.before.before.before.before) (rounds c.before.before.before.before) (lent c.before.before.before.before) _ _ c.index_model-model_read.ensures.0 c.model_refused.ensures
+    (λ counts q. miss (1 ∷ 2 ∷ 3 ∷ 4 ∷ 5 ∷ 6 ∷ []) 0 tt (rw q at c.in_default.in_default-own.keys2))
 
-start-requires : tie.Need-start-requires
+start-requires : tie.Need-start-start-requires
 start-requires c κs =
-    let t = c.before.before in
-    start-asked (words (read t)) (rounds (read t)) (lent (read t)) _ _ _ (model-accepted t) _ (search rules)
+    start-asked (words (read c.before.before.before)) (rounds (read c.before.before.before)) (lent (read c.before.before.before)) _ _ _ (model-accepted c.before.before.before) _ (search rules)
 
-returns-2 : tie.Need-returns-2
+returns-2 : tie.Need-returns-in_default-start_stop
 returns-2 c =
-    let s = c.before.before.before in
-    let t = told s in
-    start-stops (words (read t)) (rounds (read t)) (lent (read t)) _ _ _ (model-accepted t) s.start.result (first s) s.start.ensures.2
-    (λ q. miss stops 0 tt (rw q at c.before.match2.keys2)) _ c.stopped.ensures
+    start-stops (words (read c.before.before.before.before.before.before.before)) (rounds (read c.before.before.before.before.before.before.before)) (lent (read c.before.before.before.before.before.before.before)) _ _ _ (model-accepted c.before.before.before.before.before.before.before) c.start-start.result (first c.before.before.before) c.start-start.ensures.2
+    (λ q. miss stops 0 tt (rw q at c.in_default-start_stop.in_default-start_stop-own.keys2)) _ c.stopped.ensures
 
-explore-requires : tie.Need-explore-requires
-explore-requires c κs =
-    let s = c.before.before.before.before.before.before.before.before in
-    let t = told s in (
-      asked (words (read t)) (rounds (read t)) (lent (read t)) _ _ _ (model-accepted t),
-      first-located (words (read t)) (rounds (read t)) (lent (read t)) _ _ _ (model-accepted t) s.start.result (first s) s.start.ensures.2,
-      s.start.ensures.0,
-      s.start.ensures.1,
-      no-ends _ 64 (search rules) (omega arith),
-    )
+explore-requires : tie.Need-explore-found-requires
+explore-requires c κs = (
+  asked (words (read c.before.before.before.before.before.before.before.before.before.before.before)) (rounds (read c.before.before.before.before.before.before.before.before.before.before.before)) (lent (read c.before.before.before.before.before.before.before.before.before.before.before)) _ _ _ (model-accepted c.before.before.before.before.before.before.before.before.before.before.before),
+  first-located (words (read c.before.before.before.before.before.before.before.before.before.before.before)) (rounds (read c.before.before.before.before.before.before.before.before.before.before.before)) (lent (read c.before.before.before.before.before.before.before.before.before.before.before)) _ _ _ (model-accepted c.before.before.before.before.before.before.before.before.before.before.before) c.start-start.result (first c.before.before.before.before.before.before.before) c.start-start.ensures.2,
+  c.start-start.ensures.0,
+  c.start-start.ensures.1,
+  no-ends _ 64 (search rules) (omega arith),
+)
 
 -- the moment behind the start node, from behind exploring
-abbrev placed : tie.After-explore → tie.After-start
-placed c = c.before.before.before.before.before.before.before.before.before
+abbrev placed : tie.After-explore-found → tie.After-start-start
+placed c = c.before.before.before.before.before.before.before.before
 
-returns-3 : tie.Need-returns-3
+returns-3 : tie.Need-returns-in_default-stop
 returns-3 c =
-    let x = c.before.before.before.before.before in
-    let s = placed x in
-    let t = told s in
-    explore_stops (words (read t)) (rounds (read t)) (lent (read t)) _ _ _ (model-accepted t) s.start.result (first s) s.start.ensures.2 s.start.ensures.1
-    x.before.before.before.before.before.before.enum-told2.given.1 _ _ _ _ _ x.explore.ensures.0
-    (λ q. miss stops 0 tt (rw q at c.before.match3.keys2)) _ c.stopped2.ensures
+    explore_stops (words (read c.before.before.before.before.before.before.before.before.before.before.before.before.before.before.before.before.before)) (rounds (read c.before.before.before.before.before.before.before.before.before.before.before.before.before.before.before.before.before)) (lent (read c.before.before.before.before.before.before.before.before.before.before.before.before.before.before.before.before.before)) _ _ _ (model-accepted c.before.before.before.before.before.before.before.before.before.before.before.before.before.before.before.before.before) c.start-start.result (first c.before.before.before.before.before.before.before.before.before.before.before.before.before) c.start-start.ensures.2 c.start-start.ensures.1
+    c.in-None.is _ _ _ _ _ c.explore-found.ensures.0
+    (λ q. miss stops 0 tt (rw q at c.in_default-stop.in_default-stop-own.keys2)) _ c.stopped-in_default-stop.ensures
 
 finish-requires : tie.Need-finish-requires
-finish-requires c κs =
-    let x = c.before.before.before.before.before.before.before.before.before.before in
-    let t = told (placed x) in (
-      rounds-asked (asked (words (read t)) (rounds (read t)) (lent (read t)) _ _ _ (model-accepted t)),
-      x.explore.ensures.1.0.1,
-      x.explore.ensures.1.1.finishes c.before.before.before.before.before.enum-told3.given.1,
-    )
+finish-requires c κs = (
+  rounds-asked (asked (words (read c.before.before.before.before.before.before.before.before.before.before.before.before.before.before.before.before.before.before.before.before.before)) (rounds (read c.before.before.before.before.before.before.before.before.before.before.before.before.before.before.before.before.before.before.before.before.before)) (lent (read c.before.before.before.before.before.before.before.before.before.before.before.before.before.before.before.before.before.before.before.before.before)) _ _ _ (model-accepted c.before.before.before.before.before.before.before.before.before.before.before.before.before.before.before.before.before.before.before.before.before)),
+  c.explore-found.ensures.1.0.1,
+  c.explore-found.ensures.1.1.finishes c.in-None-stop.is,
+)
 
-returns-4 : tie.Need-returns-4
+returns-4 : tie.Need-returns
 returns-4 c =
-    let f = c.before.before in
-    let l = f.before.before.before.before.before.before in
-    let x = l.before.before.before.before.before in
-    let s = placed x in
-    let t = told s in
-    finished (words (read t)) (rounds (read t)) (lent (read t)) _ _ _ (model-accepted t) s.start.result (first s) s.start.ensures.2 s.start.ensures.1
-    x.before.before.before.before.before.before.enum-told2.given.1 _ _ _ _ _ x.explore.ensures.0 l.enum-told3.given.1 _ _
-    f.finish.ensures.0 f.finish.ensures.1
+    finished (words (read c.before.before.before.before.before.before.before.before.before.before.before.before.before.before.before.before.before.before.before.before.before.before.before.before)) (rounds (read c.before.before.before.before.before.before.before.before.before.before.before.before.before.before.before.before.before.before.before.before.before.before.before.before)) (lent (read c.before.before.before.before.before.before.before.before.before.before.before.before.before.before.before.before.before.before.before.before.before.before.before.before)) _ _ _ (model-accepted c.before.before.before.before.before.before.before.before.before.before.before.before.before.before.before.before.before.before.before.before.before.before.before.before) c.start-start.result (first c.before.before.before.before.before.before.before.before.before.before.before.before.before.before.before.before.before.before.before.before) c.start-start.ensures.2 c.start-start.ensures.1
+    c.in-None.is _ _ _ _ _ c.explore-found.ensures.0 c.in-None-stop.is _ _
+    c.finish.ensures.0 c.finish.ensures.1
 
-pub draft-spec : {M : Type 1} → statement M
-draft-spec =
+pub draft_spec : {M : Type 1} → statement M
+draft_spec =
     tie.close
     (tie.spec (λ c. search rules) (λ c. search rules) (λ c κs. search rules) (λ c. search rules) (λ c κs. search rules) returns (λ c. search rules)
     start-requires (λ c. search rules) (λ c κs. search rules) returns-2 (λ c. search rules) (λ c. search rules) (λ c. search rules)

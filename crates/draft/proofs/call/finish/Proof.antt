@@ -5,25 +5,20 @@ use Rattle.draft.proofs.FinishLaws.{text-fits, too_few, enough}
 use Rattle.draft.proofs.call.finish.Statement.{statement}
 use Rattle.draft.proofs.call.finish.Tie as tie
 
-returns : tie.Need-returns
+returns : tie.Need-returns-then-lent-length
 unfolding draft_answer
-returns c = too_few c.before.draft-length.ensures _ _ c.if1.true
+returns c = too_few c.draft_length-length.ensures _ _ c.if-lent-length.true
 
-write-draft-requires : tie.Need-write-draft-requires
+write-draft-requires : tie.Need-write_draft-requires
 write-draft-requires c κs =
-    let v = c.before.before.before in
-    let t = v.before.before in
-    let stores = t.before.before.before.before.before.before.before.requires.2 in
-    (record { stores = stores; values = v.values-after.ensures.1 }, text-fits t.before.draft-length.ensures _ t.if1.false)
+    let stores = c.requires.2 in
+    (record { stores = stores; values = c.values_after-values.ensures.1 }, text-fits c.draft_length-length.ensures _ c.if-lent-length.false)
 
-returns-2 : tie.Need-returns-2
+returns-2 : tie.Need-returns
 unfolding draft_answer
 returns-2 c =
-    let w = c.before.before in
-    let v = w.before.before.before.before in
-    let t = v.before.before in
-    let values = rw v.before.counted.ensures at v.values-after.ensures.0 in
-    enough t.before.draft-length.ensures _ _ t.if1.false values w.write-draft.ensures
+    let values = rw c.counted.ensures at c.values_after-values.ensures.0 in
+    enough c.draft_length-length.ensures _ _ c.if-lent-length.false values c.write_draft.ensures
 
 pub finish_spec : {M : Type 1} → statement M
 finish_spec =

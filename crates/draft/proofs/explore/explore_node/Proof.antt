@@ -14,68 +14,58 @@ use Rattle.draft.proofs.explore.explore_node.Tie as tie
 
 -- the location of the node
 abbrev At : Type 0
-At = tie.After-location-at
+At = tie.After-location_at-l
 
 abbrev start : At → tie.Start
-start c = c.before.before.before.before.before
+start c = c.before.before.before.before
 
 abbrev model : tie.Start → Kept
-model s = keep s.args.t1 s.args.edges.now s.args.zones.now
+model s = keep s.args.index s.args.edges.now s.args.zones.now
 
-exists : (c : At) → c.location-at.result < (start c).args.t1.locations
-exists c = let s = start c in node-located s.args.nodes.now s.args.extent _ s.pre.1 c.location-at.ensures.0 s.pre.2
+exists : (c : At) → c.location_at-l.result < c.args.index.locations
+exists c = node-located c.args.nodes.now c.args.extent _ c.requires.1 c.location_at-l.ensures.0 c.requires.2
 
 -- the zones of the node and of its invariant
 abbrev at : tie.After-load → At
-at c = c.before.before.before.before.before
+at c = c.before.before.before.before
 
-zone-tightens : (c : tie.After-load) → Tightens 3 c.before.zone-at.result
-zone-tightens c = rw c.before.zone-at.ensures (read-tightens _ _)
+zone-tightens : (c : tie.After-load) → Tightens 3 c.zone_at-zone.result
+zone-tightens c = rw c.zone_at-zone.ensures (read-tightens _ _)
 
 invariant-tightens : (c : tie.After-load) → Tightens 3 c.load.result
-invariant-tightens c = rw c.load.ensures ((start (at c)).requires.0.invariants _ (exists (at c)))
+invariant-tightens c = rw c.load.ensures (c.requires.0.invariants _ (exists (at c)))
 
-location-at-requires : tie.Need-location-at-requires
-location-at-requires c κs = let s = c.before.before.before.before in s.requires.3.holds.nodes _ s.requires.1
+location-at-requires : tie.Need-location_at-l-requires
+location-at-requires c κs = c.requires.3.holds.nodes _ c.requires.1
 
-returns : tie.Need-returns
+returns : tie.Need-returns-then-index-l
 returns c =
-    let l = c.before.before in
-    let s = start l in
-    node-target s.args.nodes.now s.args.extent s.args.n s.pre.1 l.location-at.ensures.0 (model s) s.args.codes.now c.if1.true s.pre.3
+    node-target c.args.nodes.now c.args.extent c.args.n c.requires.1 c.location_at-l.ensures.0 (model c.before.before.before.before.before.before) c.args.codes.now c.if-index-l.true c.requires.3
 
-zone-at-requires : tie.Need-zone-at-requires
-zone-at-requires c κs = let s = start c.before.before.before in (s.pre.3.holds.nodes _ s.pre.1, s.pre.0.clocks.few)
+zone-at-requires : tie.Need-zone_at-zone-requires
+zone-at-requires c κs = (c.requires.3.holds.nodes _ c.requires.1, c.requires.0.clocks.few)
 
-waited-requires : tie.Need-waited-requires
+waited-requires : tie.Need-waited-waited-requires
 waited-requires c κs = (tightens-fewer 1 3 _ (omega arith) (zone-tightens c), tightens-fewer 1 3 _ (omega arith) (invariant-tightens c))
 
 rows-requires : tie.Need-rows-requires
-rows-requires c κs =
-    let w = c.before.before in
-    let l = at w.before in
-    let s = start l in (
-      s.pre.0,
-      rw w.waited.ensures (waited_tightens (zone-tightens w.before) (invariant-tightens w.before)),
-      exists l,
-      s.pre.3,
-    )
+rows-requires c κs = (
+  c.requires.0,
+  rw c.waited-waited.ensures (waited_tightens (zone-tightens c.before.before.before) (invariant-tightens c.before.before.before)),
+  exists c.before.before.before.before.before.before.before,
+  c.requires.3,
+)
 
-returns-2 : tie.Need-returns-2
-returns-2 c =
-    let called = c.before.before.before.before in
-    let w = called.before.before.before in
-    let load = w.before in
-    let l = at load in
-    let s = start l in (
-      called.rows.ensures.0,
-      called.rows.ensures.1
-          ∙ node-rows s.args.nodes.now s.args.extent s.args.n s.pre.1 l.location-at.ensures.0 (model s) s.args.codes.now
-          load.before.before.before.if1.false load.before.zone-at.ensures load.load.ensures w.waited.ensures,
-    )
+returns-2 : tie.Need-returns
+returns-2 c = (
+  c.rows.ensures.0,
+  c.rows.ensures.1
+      ∙ node-rows c.args.nodes.now c.args.extent c.args.n c.requires.1 c.location_at-l.ensures.0 (model c.before.before.before.before.before.before.before.before.before.before.before.before.before.before.before.before) c.args.codes.now
+      c.if-index-l.false c.zone_at-zone.ensures c.load.ensures c.waited-waited.ensures,
+)
 
-pub explore-node-spec : {M : Type 1} → statement M
-explore-node-spec =
+pub explore_node_spec : {M : Type 1} → statement M
+explore_node_spec =
     tie.close
     (tie.spec location-at-requires (λ c. search rules) (λ c. search rules) (λ c. search rules) returns zone-at-requires (λ c κs. search rules)
     waited-requires rows-requires (λ c. search rules) (λ c. search rules) returns-2)

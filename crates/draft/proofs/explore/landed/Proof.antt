@@ -5,11 +5,11 @@ use Rattle.draft.proofs.ExploreCode.{lands-all, lands-part}
 use Rattle.draft.proofs.explore.landed.Statement.{statement}
 use Rattle.draft.proofs.explore.landed.Tie as tie
 
-returns : tie.Need-returns
-returns c = lands-all _ _ c.before.requires.2 c.if1.true
+returns : tie.Need-returns-then-inside
+returns c = lands-all _ _ c.requires.2 c.if-inside.true
 
-returns-2 : tie.Need-returns-2
-returns-2 c = c.common.ensures ∙ lands-part _ _ c.before.before.requires.2 c.before.if1.false
+returns-2 : tie.Need-returns
+returns-2 c = c.common.ensures ∙ lands-part _ _ c.requires.2 c.if-inside.false
 
-pub landed-spec : {M : Type 1} → statement M
-landed-spec = tie.close (tie.spec returns (λ c κs. search rules) returns-2)
+pub landed_spec : {M : Type 1} → statement M
+landed_spec = tie.close (tie.spec returns (λ c κs. search rules) returns-2)

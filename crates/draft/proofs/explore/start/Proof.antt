@@ -6,14 +6,11 @@ use Rattle.draft.proofs.explore.start.Statement.{statement}
 use Rattle.draft.proofs.explore.start.Tie as tie
 
 returns : tie.Need-returns
-returns c =
-    let placed = c.before.before in
-    let front = placed.before in
-    let s = front.before.before.before in (
-      placed.place.ensures.0.holds,
-      refl,
-      start-built s.args.index s.args.initial s.args.nodes.now placed.place.new.0 placed.place.result front.front_of.ensures placed.place.ensures.1.1,
-    )
+returns c = (
+  c.place-placed.ensures.0.holds,
+  refl,
+  start-built c.args.index c.args.initial c.args.nodes.now c.place-placed.new.nodes c.place-placed.result c.front_of.ensures c.place-placed.ensures.1.1,
+)
 
 pub start_spec : {M : Type 1} → statement M
 start_spec = tie.close (tie.spec (λ c κs. search rules) (λ c κs. search rules) (λ c. search rules) returns)

@@ -7,6 +7,6 @@ use Rattle.draft.proofs.fronts.empty_front.Tie as tie
 returns : tie.Need-returns
 returns c = empty-front c.args.location _
 
-pub empty-front-spec : {M : Type 1} → statement M
-empty-front-spec =
+pub empty_front_spec : {M : Type 1} → statement M
+empty_front_spec =
     tie.close (tie.spec (λ c. search rules) (λ c. search rules) (λ c. search rules) (λ c. search rules) returns)

@@ -4,7 +4,7 @@ use Rattle.draft.proofs.fronts.is_narrow.Statement.{statement}
 use Rattle.draft.proofs.fronts.is_narrow.Tie as tie
 
 returns : tie.Need-returns
-returns c = narrow-test c.before.before.before.before.args.bound c.struct-told2.given.0.1
+returns c = narrow-test c.args.bound c.struct_told-2-1.given.0.1
 
-pub is-narrow-spec : {M : Type 1} → statement M
-is-narrow-spec = tie.close (tie.spec returns)
+pub is_narrow_spec : {M : Type 1} → statement M
+is_narrow_spec = tie.close (tie.spec returns)

@@ -9,43 +9,36 @@ use Rattle.draft.proofs.NodeLaws.{other-size, word_same, word-not, words_same}
 use Rattle.draft.proofs.nodes.has_front.Statement.{statement}
 use Rattle.draft.proofs.nodes.has_front.Tie as tie
 
-abbrev invariant-loop : tie.invariant-loop
+abbrev invariant-loop : tie.invariant-loop-p
 invariant-loop nodes n words from p₀ end p =
     (p ≤ length words) × (same_words? (front_at nodes n) words ≡ same_words? (drop p (front_at nodes n)) (drop p words))
 
-abbrev decreases-loop : tie.decreases-loop
+abbrev decreases-loop : tie.decreases-loop-p
 decreases-loop nodes n words from p₀ end p = length words - p
 
-returns : tie.Need-returns invariant-loop decreases-loop
+returns : tie.Need-returns-then-nodes-from invariant-loop decreases-loop
 returns c =
-    let start = c.before.before in
-    sym (other-size _ _ _ start.requires c.if1.true)
+    sym (other-size _ _ _ c.requires c.if-nodes-from.true)
 
-loop-holds : tie.Need-loop-init invariant-loop decreases-loop
+loop-holds : tie.Need-loop-p-init invariant-loop decreases-loop
 loop-holds c = (omega arith, refl)
 
-returns-2 : tie.Need-returns-2 invariant-loop decreases-loop
+returns-2 : tie.Need-returns-then-nodes-from-2 invariant-loop decreases-loop
 returns-2 c =
-    let turn = c.before.before.before.before in
-    let start = turn.before.before.before in
-    sym (turn.loop.invariant.1 ∙ word-not _ _ _ start.requires turn.before.if1.false turn.loop.p (omega arith) c.if2.true)
+    sym (c.loop-p.invariant.1 ∙ word-not _ _ _ c.requires c.if-nodes-from.false c.loop-p.p (omega arith) c.if-nodes-from-2.true)
 
-loop-again : tie.Need-loop-preserved invariant-loop decreases-loop
-loop-again c =
-    let turn = c.before.before.before.before in
-    let start = turn.before.before.before in (
-      omega arith,
-      turn.loop.invariant.1 ∙ word_same _ _ _ start.requires turn.before.if1.false turn.loop.p (omega arith) c.if2.false,
-    )
+loop-again : tie.Need-loop-p-preserved invariant-loop decreases-loop
+loop-again c = (
+  omega arith,
+  c.loop-p.invariant.1 ∙ word_same _ _ _ c.requires c.if-nodes-from.false c.loop-p.p (omega arith) c.if-nodes-from-2.false,
+)
 
-returns-3 : tie.Need-returns-3 invariant-loop decreases-loop
+returns-3 : tie.Need-returns invariant-loop decreases-loop
 returns-3 c =
-    let turn = c.before in
-    let start = turn.before.before.before in
-    sym (turn.loop.invariant.1 ∙ words_same _ _ _ start.requires turn.before.if1.false turn.loop.p c.loop-test.false)
+    sym (c.loop-p.invariant.1 ∙ words_same _ _ _ c.requires c.if-nodes-from.false c.loop-p.p c.loop-p-test.false)
 
-pub has-front-spec : {M : Type 1} → statement M
-has-front-spec =
+pub has_front_spec : {M : Type 1} → statement M
+has_front_spec =
     tie.close
     (tie.spec invariant-loop decreases-loop (λ c. search rules) (λ c. search rules) (λ c. search rules) (λ c. search rules) returns loop-holds (λ c. search rules)
     (λ c. search rules) (λ c. search rules) (λ c. search rules) (λ c. search rules) (λ c. search rules) returns-2 (λ c. search rules)

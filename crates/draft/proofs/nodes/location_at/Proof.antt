@@ -8,11 +8,10 @@ use Rattle.draft.proofs.nodes.location_at.Tie as tie
 
 returns : tie.Need-returns
 returns c =
-    let start = c.before.before.before in
-    let first = first_word start.args.nodes.now start.args.n start.requires in
-    (c.location-of.ensures.0 ∙ ap location_of (sym first), c.location-of.ensures.1)
+    let first = first_word c.args.nodes.now c.args.n c.requires in
+    (c.location_of.ensures.0 ∙ ap location_of (sym first), c.location_of.ensures.1)
 
-pub location-at-spec : {M : Type 1} → statement M
-location-at-spec =
+pub location_at_spec : {M : Type 1} → statement M
+location_at_spec =
     tie.close
     (tie.spec (λ c. search rules) (λ c. search rules) (λ c. search rules) (λ c. search rules) (λ c κs. search rules) returns)

@@ -8,6 +8,7 @@ use lib.ListN.{length, length-map}
 use lib.Seq.{length-take-le}
 use Rattle.draft.proofs.NodeLaws.{still, fronts-length, known-below, placed-known, placed-new, placed-wide}
 use Rattle.draft.proofs.nodes.place.Statement.{statement}
+use Rattle.draft.proofs.nodes.place.Lts.{then-front+in_default, else-front}
 use Rattle.draft.proofs.nodes.place.Tie as tie
 
 fits : (c : tie.Start) → c.args.front.size ≤ length c.args.front.list
@@ -16,35 +17,35 @@ fits c =
     let r = c.requires.1.room in
     omega arith
 
-array-share-prefix-list : tie.Need-array-share-prefix-list
-array-share-prefix-list c = fits c.before.before.before.before
+array-share-prefix-list : tie.Need-slice_bounds-list-end
+array-share-prefix-list c = fits c.before.before.before
 
-slice-aggregate-find : tie.Need-slice-aggregate-find
-slice-aggregate-find c = sym (length-take-le _ _ (fits c.before.before.before.before.before))
+slice-aggregate-find : tie.Need-slice_bounds-find-end
+slice-aggregate-find c = sym (length-take-le _ _ (fits c.before.before.before.before))
 
-returns : tie.Need-returns
+returns : tie.Need-returns-in-At
 returns c =
-    let found = c.before.before.before in
-    let narrow = found.before.before.before.before in
-    let start = narrow.before.before in
-    let args = start.args in
-    let at = sym c.before.known.given.1 ∙ found.find.ensures in
+    let at = sym c.in-At.is ∙ c.find-known.ensures in
     let below = known-below _ 0 _ _ (sym at) in
-    let many = fronts-length args.nodes.now args.count in
-    let few = start.requires.0.limit in
-    (still args.nodes.now args.count start.requires.0, (omega arith, placed-known _ _ _ _ narrow.if1.true at))
+    let many = fronts-length c.args.nodes.now c.args.count in
+    let few = c.requires.0.limit in
+    (still c.args.nodes.now c.args.count c.requires.0, (omega arith, placed-known _ _ _ _ c.if-front.true at))
 
-returns-2 : tie.Need-returns-2
+returns-2 : tie.Need-returns
 returns-2 c =
-    let added = c.before.before in
-    let told = added.add.ensures in
-    let placed =
-    ⊎_elim (λ y. placed-new _ _ _ y.0.taken (sym y.6.given.1 ∙ y.4.ensures)) (λ y. placed-wide _ _ _ y.left)
-    added.before.before.if1.branch in
-    (told.0, (told.1.0, told.1.1 ∙ placed))
+    let told = c.add.ensures in (
+      told.0,
+      (
+        told.1.0,
+        told.1.1 ∙ elim c.if-front.branch [
+          | then-front+in_default w ↦ placed-new _ _ _ w.if-front.true (sym w.in_default.is ∙ w.find-known.ensures)
+          | else-front w ↦ placed-wide _ _ _ w.if-front.false
+        ],
+      ),
+    )
 
-pub place-spec : {M : Type 1} → statement M
-place-spec =
+pub place_spec : {M : Type 1} → statement M
+place_spec =
     tie.close
     (tie.spec array-share-prefix-list slice-aggregate-find (λ c κs. search rules) (λ c. search rules) (λ c. search rules) returns (λ c. search rules) (λ c κs. search rules) (λ c. search rules)
     returns-2)

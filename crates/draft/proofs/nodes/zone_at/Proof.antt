@@ -11,13 +11,11 @@ use Rattle.draft.proofs.nodes.zone_at.Tie as tie
 
 returns : tie.Need-returns
 returns c =
-    let read = c.before in
-    let start = read.before.before.before.before in
-    ap (λ (r : ZoneRead). r.zone) read.read-zone.ensures
-    ∙ ap (λ (ws : List ℕ). (read_zone start.args.clocks ws).zone) (bound-words start.args.nodes.now start.args.n start.requires.0)
+    ap (λ (r : ZoneRead). r.zone) c.read_zone-read.ensures
+    ∙ ap (λ (ws : List ℕ). (read_zone c.args.clocks ws).zone) (bound-words c.args.nodes.now c.args.n c.requires.0)
 
-pub zone-at-spec : {M : Type 1} → statement M
-zone-at-spec =
+pub zone_at_spec : {M : Type 1} → statement M
+zone_at_spec =
     tie.close
     (tie.spec (λ c. search rules) (λ c. search rules) (λ c. search rules) (λ c. search rules) (λ c. search rules) (λ c. search rules)
     (λ c. search rules) (λ c. search rules) (λ c. search rules) (λ c. search rules) (λ c. search rules) (λ c κs. search rules) returns)

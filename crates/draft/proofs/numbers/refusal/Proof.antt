@@ -8,5 +8,5 @@ returns : tie.Need-returns
 unfolding numbered
 returns c = refl
 
-pub refusal-spec : {M : Type 1} → statement M
-refusal-spec = tie.close (tie.spec returns)
+pub refusal_spec : {M : Type 1} → statement M
+refusal_spec = tie.close (tie.spec returns)

@@ -6,12 +6,12 @@ use Rattle.draft.proofs.RoundCode.{begin_later}
 use Rattle.draft.proofs.rounds.begin_of.Statement.{statement}
 use Rattle.draft.proofs.rounds.begin_of.Tie as tie
 
-returns : tie.Need-returns
+returns : tie.Need-returns-then-n-eq0
 unfolding begin_of
-returns c = rw c.if1.true refl
+returns c = rw c.if-n-eq0.true refl
 
-returns-2 : tie.Need-returns-2
-returns-2 c = begin_later _ _ c.before.if1.false
+returns-2 : tie.Need-returns
+returns-2 c = begin_later _ _ c.if-n-eq0.false
 
-pub begin-of-spec : {M : Type 1} → statement M
-begin-of-spec = tie.close (tie.spec returns (λ c. search rules) (λ c. search rules) (λ c. search rules) returns-2)
+pub begin_of_spec : {M : Type 1} → statement M
+begin_of_spec = tie.close (tie.spec returns (λ c. search rules) (λ c. search rules) (λ c. search rules) returns-2)

@@ -12,11 +12,11 @@ use Rattle.draft.proofs.rounds.rounded_up.Tie as tie
 small : (c : tie.Start) → rounded_up c.args.sum c.args.denominator ≤ whole
 small c = up_least c.args.denominator c.requires.0 c.args.sum whole c.requires.1
 
-cast-result : tie.Need-overflow-cast-result
+cast-result : tie.Need-overflow_cast-result
 cast-result c = let s = small c in omega arith
 
 returns : tie.Need-returns
 returns c = (refl, small c)
 
-pub rounded-up-spec : {M : Type 1} → statement M
-rounded-up-spec = tie.close (tie.spec (λ c. search rules) (λ c. search rules) (λ c. search rules) cast-result returns)
+pub rounded_up_spec : {M : Type 1} → statement M
+rounded_up_spec = tie.close (tie.spec (λ c. search rules) (λ c. search rules) (λ c. search rules) cast-result returns)

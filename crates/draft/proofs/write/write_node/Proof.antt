@@ -18,109 +18,99 @@ node s = s.requires.0.node
 
 -- how many words there are, and that they have room
 size : (s : tie.Start) →
-    let a = s.args in
-    let ends = a.ends.now in
-    length (node_text a.nodes.now a.values.now a.codes.now ends a.n)
-    ≡ get_or a.nodes.now (a.n * 27) 0 + 1 + (get_or ends a.n 0 - begin_of ends a.n)
+    let ends = s.args.ends.now in
+    length (node_text s.args.nodes.now s.args.values.now s.args.codes.now ends s.args.n)
+    ≡ get_or s.args.nodes.now (s.args.n * 27) 0 + 1 + (get_or ends s.args.n 0 - begin_of ends s.args.n)
 size s = node-length _ _ _ _ _ (node s) s.requires.0.fits
 
 room : (s : tie.Start) →
-    let a = s.args in
-    let ends = a.ends.now in
-    a.at + (get_or a.nodes.now (a.n * 27) 0 + 1 + (get_or ends a.n 0 - begin_of ends a.n)) ≤ length a.lent.now
+    let ends = s.args.ends.now in
+    s.args.at + (get_or s.args.nodes.now (s.args.n * 27) 0 + 1 + (get_or ends s.args.n 0 - begin_of ends s.args.n)) ≤ length s.args.lent.now
 room s = rw (size s) at s.requires.1
 
 -- ---- behind the front words, and behind those of the rows
 
 abbrev Front : Type 0
-Front = tie.After-write-front
+Front = tie.After-write_front
 
 abbrev start : Front → tie.Start
 start c = c.before.before.before.before.before.before.before
 
-same : (c : Front) → length c.write-front.new.0 ≡ length (start c).args.lent.now
-same c = let s = start c in (front-put _ _ _ _ _ _ _ (node s) s.pre.1 c.write-front.ensures).size
+same : (c : Front) → length c.write_front.new.lent ≡ length c.args.lent.now
+same c = (front-put _ _ _ _ _ _ _ (node c.before.before.before.before.before.before.before) c.requires.1 c.write_front.ensures).size
 
 abbrev Rows : Type 0
-Rows = tie.After-slice-known3
+Rows = tie.After-slice_known-3-1
 
 abbrev front : Rows → Front
 front c = c.before.before.before.before.before.before.before.before.before.before
 
 put : (c : Rows) →
-    let a = (start (front c)).args in
-    let last = c.before.before.write-rows.new.0 in
-    (length last ≡ length a.lent.now)
-    × (last ≡ written a.lent.now a.at (node_text a.nodes.now a.values.now a.codes.now a.ends.now a.n))
+    let last = c.write_rows.new.lent in
+    (length last ≡ length c.args.lent.now)
+    × (last ≡ written c.args.lent.now c.args.at (node_text c.args.nodes.now c.args.values.now c.args.codes.now c.args.ends.now c.args.n))
 put c =
-    let s = start (front c) in
-    node-put _ _ _ _ _ _ _ (node s) s.pre.1 (front c).write-front.ensures c.before.before.before.before.before.begin-of.ensures _
-    c.before.before.write-rows.ensures
+    node-put _ _ _ _ _ _ _ (node c.before.before.before.before.before.before.before.before.before.before.before.before.before.before.before.before.before) c.requires.1 c.write_front.ensures c.begin_of-from.ensures _
+    c.write_rows.ensures
 
-write-front-requires : tie.Need-write-front-requires
+write-front-requires : tie.Need-write_front-requires
 write-front-requires c κs =
-    let s = c.before.before.before.before.before.before in
-    (node s, front-room _ _ _ _ s.args.lent.now _ _ (node s) s.requires.1)
+    (node c.before.before.before.before.before.before, front-room _ _ _ _ c.args.lent.now _ _ (node c.before.before.before.before.before.before) c.requires.1)
 
-cast-value : tie.Need-overflow-cast-value
+cast-value : tie.Need-overflow_cast-value
 cast-value c = let few = (node (start c.before.before.before)).few in omega arith
 
-add-value : tie.Need-overflow-add-value
+add-value : tie.Need-overflow_add-value
 add-value c = let r = room (start c.before.before.before) in search rules
 
-add-lent : tie.Need-overflow-add-lent
+add-lent : tie.Need-overflow_add-lent
 add-lent c =
-    let s = start c.before.before.before.before in
-    let small = s.pre.0.values.small s.args.n in
+    let small = c.requires.0.values.small c.args.n in
     omega arith
 
-mul-lent-2 : tie.Need-overflow-mul-lent-2
+mul-lent-2 : tie.Need-offset_bounds-lent-value
 mul-lent-2 c = let r = room (start c.before.before.before.before) in search rules
 
-slice-write-lent : tie.Need-slice-write-lent
+slice-write-lent : tie.Need-bounds-lent-value
 slice-write-lent c =
-    let f = c.before.before.before.before in
-    let r = room (start f) in
-    let s = same f in
+    let r = room (start c.before.before.before.before) in
+    let s = same c.before.before.before.before in
     omega arith
 
-add-write-rows : tie.Need-overflow-add-write-rows
+add-write-rows : tie.Need-overflow_add-value-2
 add-write-rows c = let r = room (start c.before.before.before.before.before.before.before) in search rules
 
-write-rows-requires : tie.Need-write-rows-requires
+write-rows-requires : tie.Need-write_rows-requires
 write-rows-requires c κs =
-    let f = c.before.before.before.before.before.before.before in
-    let s = start f in
-    let begins = c.before.before.begin-of.ensures in
-    let limit = s.pre.0.fits.limits s.args.n in
-    let codes = s.pre.0.fits.codes in (
-      rw begins s.pre.0.rises,
+    let begins = c.begin_of-from.ensures in
+    let limit = c.requires.0.fits.limits c.args.n in
+    let codes = c.requires.0.fits.codes in (
+      rw begins c.requires.0.rises,
       omega arith,
-      rows-room _ _ _ _ _ _ _ (node s) s.pre.1 f.write-front.ensures begins (omega arith),
+      rows-room _ _ _ _ _ _ _ (node c.before.before.before.before.before.before.before.before.before.before.before.before.before.before) c.requires.1 c.write_front.ensures begins (omega arith),
     )
 
-add-result : tie.Need-overflow-add-result
+add-result : tie.Need-overflow_add-result
 add-result c = let r = room (start (front c)) in search rules
 
-sub-result : tie.Need-overflow-sub-result
+sub-result : tie.Need-overflow_sub-result
 sub-result c =
-    let s = start (front c) in
-    rw c.before.before.before.before.before.begin-of.ensures s.pre.0.rises
+    rw c.begin_of-from.ensures c.requires.0.rises
 
-add-result-2 : tie.Need-overflow-add-result-2
+add-result-2 : tie.Need-overflow_add-result-2
 add-result-2 c =
-    let begins = c.before.before.before.before.before.begin-of.ensures in
+    let begins = c.begin_of-from.ensures in
     let r = room (start (front c)) in
     search rules
 
 returns : tie.Need-returns
 returns c =
-    let begins = c.before.before.before.before.before.begin-of.ensures in
+    let begins = c.begin_of-from.ensures in
     let words = size (start (front c)) in
     (omega arith, (put c).1)
 
-pub write-node-spec : {M : Type 1} → statement M
-write-node-spec =
+pub write_node_spec : {M : Type 1} → statement M
+write_node_spec =
     tie.close
     (tie.spec write-front-requires (λ c. search rules) (λ c. search rules) (λ c. search rules) cast-value add-value (λ c. search rules)
     (λ c. search rules) add-lent mul-lent-2 slice-write-lent (λ c κs. search rules) (λ c. search rules) (λ c. search rules) add-write-rows

@@ -7,5 +7,5 @@ use Rattle.miss_chance.proofs.replies.answered.Tie as tie
 returns : tie.Need-returns
 returns c = rw (yes-written c.args.yes)
 
-pub answered-spec : {M : Type 1} → statement M
-answered-spec = tie.close (tie.spec (λ c. search rules) returns)
+pub answered_spec : {M : Type 1} → statement M
+answered_spec = tie.close (tie.spec (λ c. search rules) returns)

@@ -4,15 +4,15 @@ use Rattle.draft.proofs.Numbering.{says, not-zero, is_zero}
 use Rattle.miss_chance.proofs.replies.of_draft.Statement.{statement}
 use Rattle.miss_chance.proofs.replies.of_draft.Tie as tie
 
-returns : tie.Need-returns
+returns : tie.Need-returns-then-told-ne0
 returns c =
-    let told = c.before.before.before.before.in-numbers in
-    rw (c.refusal.ensures, ← says _ told.ensures, not-zero told.result c.before.before.if1.true)
+    let told = c.in_numbers-told in
+    rw (c.refusal.ensures, ← says _ told.ensures, not-zero told.result c.if-told-ne0.true)
 
-returns-2 : tie.Need-returns-2
+returns-2 : tie.Need-returns
 returns-2 c =
-    let told = c.before.before.in-numbers in
-    rw (← says _ told.ensures, is_zero told.result c.if1.false)
+    let told = c.in_numbers-told in
+    rw (← says _ told.ensures, is_zero told.result c.if-told-ne0.false)
 
-pub of-draft-spec : {M : Type 1} → statement M
-of-draft-spec = tie.close (tie.spec (λ c κs. search rules) (λ c. search rules) (λ c κs. search rules) returns returns-2)
+pub of_draft_spec : {M : Type 1} → statement M
+of_draft_spec = tie.close (tie.spec (λ c κs. search rules) (λ c. search rules) (λ c κs. search rules) returns returns-2)

@@ -4,28 +4,28 @@ use Rattle.zone.specs.Questions.{inclusion_answer}
 use Rattle.miss_chance.proofs.replies.of_inclusion.Statement.{statement}
 use Rattle.miss_chance.proofs.replies.of_inclusion.Tie as tie
 
-returns : tie.Need-returns
+returns : tie.Need-returns-in-Inside
 unfolding inclusion_answer
-returns c = rw (c.answered.ensures, c.before.enum_told.given.1)
+returns c = rw (c.answered.ensures, c.in-Inside.is)
 
-returns-2 : tie.Need-returns-2
+returns-2 : tie.Need-returns-in-NotInside
 unfolding inclusion_answer
-returns-2 c = rw (c.answered2.ensures, c.before.enum-told2.given.1)
+returns-2 c = rw (c.answered-in-NotInside.ensures, c.in-NotInside.is)
 
-returns-3 : tie.Need-returns-3
+returns-3 : tie.Need-returns-in-BadClocks
 unfolding inclusion_answer
-returns-3 c = rw (c.refusal.ensures, c.before.enum-told3.given.1)
+returns-3 c = rw (c.refusal.ensures, c.in-BadClocks.is)
 
-returns-4 : tie.Need-returns-4
+returns-4 : tie.Need-returns-in-BadBound
 unfolding inclusion_answer
-returns-4 c = rw (c.refusal2.ensures, c.before.before.answer.given.1)
+returns-4 c = rw (c.refusal-in-BadBound.ensures, c.in-BadBound.is)
 
-returns-5 : tie.Need-returns-5
+returns-5 : tie.Need-returns-in-BadSecondBound
 unfolding inclusion_answer
-returns-5 c = rw (c.refusal3.ensures, c.before.before.answer2.given.1)
+returns-5 c = rw (c.refusal-in-BadSecondBound.ensures, c.in-BadSecondBound.is)
 
-pub of-inclusion-spec : {M : Type 1} → statement M
-of-inclusion-spec =
+pub of_inclusion_spec : {M : Type 1} → statement M
+of_inclusion_spec =
     tie.close
     (tie.spec (λ c. search rules) (λ c κs. search rules) (λ c. search rules) (λ c κs. search rules) (λ c. search rules) (λ c κs. search rules)
     (λ c. search rules) (λ c κs. search rules) (λ c. search rules) (λ c κs. search rules) returns returns-2 returns-3 returns-4 returns-5)

@@ -4,17 +4,17 @@ use Rattle.judge.proofs.Numbering.{says, not-zero, is_zero}
 use Rattle.miss_chance.proofs.replies.of_verdict.Statement.{statement}
 use Rattle.miss_chance.proofs.replies.of_verdict.Tie as tie
 
-returns : tie.Need-returns
+returns : tie.Need-returns-then-told-ne0
 returns c =
-    let told = c.before.before.before.before.in-numbers in
-    rw (c.refusal.ensures, ← says _ told.ensures, not-zero told.result c.before.before.if1.true)
+    let told = c.in_numbers-told in
+    rw (c.refusal.ensures, ← says _ told.ensures, not-zero told.result c.if-told-ne0.true)
 
-returns-2 : tie.Need-returns-2
+returns-2 : tie.Need-returns
 returns-2 c =
-    let told = c.before.before.before.before.in-numbers in
-    rw (← says _ told.ensures, is_zero told.result c.before.before.if1.false)
+    let told = c.in_numbers-told in
+    rw (← says _ told.ensures, is_zero told.result c.if-told-ne0.false)
 
-pub of-verdict-spec : {M : Type 1} → statement M
-of-verdict-spec =
+pub of_verdict_spec : {M : Type 1} → statement M
+of_verdict_spec =
     tie.close
     (tie.spec (λ c κs. search rules) (λ c. search rules) (λ c κs. search rules) returns (λ c. search rules) (λ c. search rules) returns-2)
