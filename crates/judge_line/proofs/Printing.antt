@@ -7,8 +7,6 @@ use native.Mathlib.Omega.{arith}
 use borrow.Author.Tests.{eq-eqb, ne_eqb}
 use lib.Dec.{T, leb→le, le→leb, eqb→eq}
 use lib.ListN.{length, take}
-use lib.Seq.{length-take-le}
-use Rattle.io.specs.Counts.{IsPrefixLen}
 use Rattle.zone.specs.Checks.{Answer, refused, accepted}
 use Rattle.acceptance.specs.Judging.{Judged, BoundsSchedulers}
 use Rattle.judge.proofs.Numbering.{numbered_answer}
@@ -16,7 +14,6 @@ use Rattle.acceptance.specs.declared.certificate.Certificate.{Certificate}
 use Rattle.judge.specs.declared.numbers.Numbered.{Numbered}
 use Rattle.judge_line.specs.Bytes.{words_of, table_part}
 use Rattle.judge_line.specs.Text.{line_of}
-use Rattle.judge_line.specs.declared.text.Line.{Line}
 use Rattle.judge_line.specs.Program.{model_in, table_in, program_checks, ProgramAnswers, Prints}
 use Rattle.judge_line.proofs.PartLaws.{before-table}
 
@@ -59,7 +56,3 @@ answers-told bytes list table h w words part answer j b told e =
     rw e (program-answers bytes h w answer
     (subst (λ (l : List ℕ). Judged (model_in bytes) l answer) t (subst (λ (l : List ℕ). Judged l table answer) m j))
     (subst (λ (l : List ℕ). BoundsSchedulers l answer) m b))
-
--- the text of a line lies in its bytes
-pub counted : (line : Line) → line.count ≤ 72 → length line.bytes ≡ 72 → IsPrefixLen line.count line.bytes
-counted line h e = let l : line.count ≤ length line.bytes = omega arith in (l, sym (length-take-le line.count line.bytes l))
