@@ -1,19 +1,21 @@
 -- One scale decides: a region over clocks 1 to C that is empty at scale C + 1 is empty, one that is not has an earliest point there, and one that
 -- lies inside a zone at scale C + 1 lies inside it at every scale. Assumes nothing.
-use Prim.Native.Nat.{ℕ, zero, suc, ◌≤◌, ◌<◌}
+use Prim.Native.Nat.{ℕ, zero, suc, ◌-◌, ◌≤◌, ◌<◌}
 use mathlib.Core.Path.{◌≡◌, refl}
-use mathlib.Core.Bool.{Bool, true, false}
+use mathlib.Core.Bool.{Bool, true, false, cond}
 use mathlib.Core.Logic.{◌⊎◌, inl, inr}
 use mathlib.Core.List.{[], ◌∷◌}
 use native.Mathlib.Omega.{arith}
 use lib.Dec.{T}
 use lib.IntN.{nat_abs}
 use Rattle.zone.specs.Scale.{Valuation, Bound, holds?, Zone, in?, Region, within, Empty, Inside}
-use Rattle.zone.specs.Earliest.{EarliestPoint}
+use Rattle.zone.specs.Earliest.{EarliestPoint, EarliestAnswer, point_answer}
+use Rattle.zone.specs.Points.{rounds_of, point_of, earliest_of}
 use Rattle.zone.specs.Words.{bound_of, good_bound?}
 use Rattle.zone.specs.Squares.{universe, with_bound, tightened, empty?, Tightens}
 use Rattle.zone.specs.Reading.{cell_of}
 use Rattle.zone.specs.declared.zones.Zone.{Zone as Square}
+use Rattle.zone.specs.declared.points.Earliest.TheVariants as earliest
 use Rattle.zone.proofs.Bools.{both, and, not-untrue, not-both}
 use Rattle.zone.proofs.KeyLaws.{opposite, opposite-holds}
 use Rattle.zone.proofs.PartLaws.{number-opposite}
@@ -55,6 +57,16 @@ module _ (C : ℕ) (C₁ : 1 ≤ C) (few : C ≤ 4) {R : Region} {z : Square} (o
       by : (C : ℕ) → 1 ≤ C → C ≤ 4 → Unused C z → EarliestPoint C R (point_at C z)
       by zero h k u = absurd (omega arith)
       by (suc c) h k u = is_earliest c k tight o.stands u e
+
+  -- what `Zone::earliest` answers of the tightened table
+  pub answered : EarliestAnswer C R (point_answer (earliest_of C (tightened z)))
+  unfolding earliest_of point_answer
+  answered = by (empty? (tightened z)) refl
+    where
+      by : (c : Bool) → empty? (tightened z) ≡ c →
+          EarliestAnswer C R (point_answer (cond c earliest.None (earliest.At (point_of (rounds_of (suc C) (tightened z) (C - 1))))))
+      by true e = empty-yes tight (spans o.stands) e
+      by false e = found e
 
   -- empty, or with an earliest point
   pub either : Empty R ⊎ EarliestPoint C R (point_at C z)

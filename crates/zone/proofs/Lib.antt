@@ -26,3 +26,4 @@ pub mod Decided
 pub mod WordsAtOneScale
 pub mod OneAnswer
 pub mod Cases
+pub mod PointCases

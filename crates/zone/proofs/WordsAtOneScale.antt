@@ -7,15 +7,16 @@ use mathlib.Core.List.{List, [], ◌∷◌}
 use native.Mathlib.Omega.{arith}
 use Rattle.zone.specs.Scale.{Valuation, within, Empty, Inside}
 use Rattle.zone.specs.Words.{good_bound?, zone_of}
-use Rattle.zone.specs.Earliest.{EarliestPoint}
+use Rattle.zone.specs.Earliest.{EarliestPoint, EarliestAnswer, point_answer}
+use Rattle.zone.specs.Points.{earliest_of}
 use Rattle.zone.specs.Reading.{with_word, read_from, read_zone}
-use Rattle.zone.specs.Squares.{universe}
+use Rattle.zone.specs.Squares.{universe, tightened}
 use Rattle.zone.specs.Questions.{clocks?, bound_checks}
 use Rattle.zone.specs.declared.zones.Zone.{Zone as Square}
 use Rattle.zone.proofs.Bools.{is_true}
 use Rattle.zone.proofs.CheckLaws.{AllHold}
 use Rattle.zone.proofs.EarliestLaws.{point_at}
-use Rattle.zone.proofs.AtOneScale.{EmptyAt, InsideAt, Over, has_earliest, empty-at-one, good-bound, AllBounds, inside-at-one}
+use Rattle.zone.proofs.AtOneScale.{EmptyAt, InsideAt, Over, answered, has_earliest, empty-at-one, good-bound, AllBounds, inside-at-one}
 use Rattle.zone.proofs.Decided.{clocks-few, clocks-some, read-over}
 
 -- words that pass 32, or 33, are read to their end
@@ -33,6 +34,10 @@ module _ (C : ℕ) (clocks : clocks? C ≡ true) (words : List ℕ) (good : AllH
   over : Over C (within (zone_of words)) (read_zone C words).zone
   unfolding read_zone
   over = read-over C (clocks-few C clocks) words (good-read 32 C words 0 universe good)
+
+  -- what `Zone::earliest` answers of the zone that was read and tightened: that it is empty, or its earliest point
+  pub words-answered : EarliestAnswer C (within (zone_of words)) (point_answer (earliest_of C (tightened (read_zone C words).zone)))
+  words-answered = answered C (clocks-some C clocks) (clocks-few C clocks) over
 
   -- a zone with a valuation at some scale has an earliest point at scale C + 1
   pub words_earliest : (k : ℕ) → 1 ≤ k → (v : Valuation) → within (zone_of words) k v → (w : Valuation) × EarliestPoint C (within (zone_of words)) w
