@@ -24,9 +24,10 @@ use Rattle.zone.proofs.CheckLaws.{first-join, first-all, first-before}
 use Rattle.zone.proofs.ReadLaws.{read-good, read-bad}
 use Rattle.zone.proofs.WordLaws.{good-first, good-second, good-number}
 use Rattle.zone.proofs.Sizes.{tightens-read}
-use Rattle.zone.proofs.Bools.{false_true, both, and, right_true}
+use Rattle.zone.proofs.Bools.{false_true, both, and, left_true, right_true}
 use Rattle.zone.proofs.Regions.{Stands, in_both, holding, stands_same, stands-universe, stands-with_bound}
 use Rattle.zone.proofs.Spans.{spans, empty-yes, empty-no, lies-yes, lies-no}
+use Rattle.zone.proofs.AtOneScale.{Over, over-same, over-universe, over-holding, good-bound}
 
 -- ---- the table that is read stands for the zone of the words
 module _ (C : ℕ) (h : C ≤ 4) where
@@ -57,8 +58,38 @@ module _ (C : ℕ) (h : C ≤ 4) where
   unfolding read_zone within in?
   read-stands ws e = stands_same (λ k v r. r.0) (λ k v r. (r, tt)) (from-stands ws 0 stands-universe e)
 
+  -- and it has no bounds of the clocks above C
+  word_over : {R : Region} {z : Square} (w : ℕ) → good_bound? C w ≡ true → Over C R z → Over C (in_both (holding (bound_of w)) R) (with_word w z)
+  unfolding with_word
+  word_over w g o = over-holding C h (bound_of w) (good-bound C w g) o
+
+  from-over : {R : Region} (ws : List ℕ) (p : ℕ) {z : Square} → Over C R z → (read_from C ws p z).good ≡ true →
+      Over C (in_both (within (zone_of ws)) R) (read_from C ws p z).zone
+  unfolding read_from within zone_of in?
+  from-over [] p o e = over-same (λ k v r. (tt, r)) (λ k v r. r.1) o
+  from-over {R} (w ∷ ws) p {z} o e =
+      by (good_bound? C w) (λ g. from-over {R = in_both (holding (bound_of w)) R} ws (suc p) (word_over w g o)) e
+    where
+      by : (c : Bool) → (c ≡ true → (read_from C ws (suc p) (with_word w z)).good ≡ true →
+          Over C (in_both (within (zone_of ws)) (in_both (holding (bound_of w)) R)) (read_from C ws (suc p) (with_word w z)).zone) →
+          (cond c (read_from C ws (suc p) (with_word w z)) (record { good = false; place = p; zone = z })).good ≡ true →
+          Over C (in_both (within (bound_of w ∷ zone_of ws)) R)
+          (cond c (read_from C ws (suc p) (with_word w z)) (record { good = false; place = p; zone = z })).zone
+      by true rest e = over-same
+          (λ k v r. (and (holds? k v (bound_of w)) (in? k v (zone_of ws)) r.1.0 r.0, r.1.1))
+          (λ k v r. let (a, b) = both (holds? k v (bound_of w)) (in? k v (zone_of ws)) r.0 in (b, (a, r.1)))
+          (rest refl e)
+      by false rest e = false_true e
+
+  pub read-over : (ws : List ℕ) → (read_zone C ws).good ≡ true → Over C (within (zone_of ws)) (read_zone C ws).zone
+  unfolding read_zone within in?
+  read-over ws e = over-same (λ k v r. r.0) (λ k v r. (r, tt)) (from-over ws 0 (over-universe C) e)
+
 pub clocks-few : (C : ℕ) → clocks? C ≡ true → C ≤ 4
 clocks-few C e = leb-true C 4 (right_true (leb 1 C) (leb C 4) e)
+
+pub clocks-some : (C : ℕ) → clocks? C ≡ true → 1 ≤ C
+clocks-some C e = leb-true 1 C (left_true (leb 1 C) (leb C 4) e)
 
 -- ---- is a zone empty?
 module _ (C : ℕ) (words : List ℕ) where

@@ -23,21 +23,21 @@ unfoldable pub limit_of : Cell → Limit
 limit_of a = cond (finite? a) (keyed a.key) none
 
 -- ---- what the test of a key tells; sizes by the parts of the key
-record Finite (a : Cell) : Type 0 where
-  test : finite? a ≡ true
-  low : up a.key < 2 ^ 28 + dn a.key
-  limit : limit_of a ≡ keyed a.key
+pub record Finite (a : Cell) : Type 0 where
+  pub test : finite? a ≡ true
+  pub low : up a.key < 2 ^ 28 + dn a.key
+  pub limit : limit_of a ≡ keyed a.key
   -- of the two parts one is 0
-  parts : size a ≡ up a.key + dn a.key
-  small : {n : ℕ} → up a.key < n + dn a.key → dn a.key < n + up a.key → size a < n
+  pub parts : size a ≡ up a.key + dn a.key
+  pub small : {n : ℕ} → up a.key < n + dn a.key → dn a.key < n + up a.key → size a < n
 
-record Absent (a : Cell) : Type 0 where
-  test : finite? a ≡ false
-  high : 2 ^ 28 + dn a.key ≤ up a.key
-  limit : limit_of a ≡ none
-  above : up a.key ≤ 2 ^ 29 + dn a.key + size a
-  below : 2 ^ 29 + dn a.key ≤ up a.key + size a
-  small : {n : ℕ} → up a.key < 2 ^ 29 + n + dn a.key → 2 ^ 29 + dn a.key < n + up a.key → size a < n
+pub record Absent (a : Cell) : Type 0 where
+  pub test : finite? a ≡ false
+  pub high : 2 ^ 28 + dn a.key ≤ up a.key
+  pub limit : limit_of a ≡ none
+  pub above : up a.key ≤ 2 ^ 29 + dn a.key + size a
+  pub below : 2 ^ 29 + dn a.key ≤ up a.key + size a
+  pub small : {n : ℕ} → up a.key < 2 ^ 29 + n + dn a.key → 2 ^ 29 + dn a.key < n + up a.key → size a < n
 
 is_finite : (a : Cell) → T (finite? a) → Finite a
 unfolding limit_of size
@@ -66,7 +66,7 @@ is-absent a t =
       small = λ {n} h k. rw e (abs-small z (omega arith) (omega arith));
     }
 
-kind : (a : Cell) → Finite a ⊎ Absent a
+pub kind : (a : Cell) → Finite a ⊎ Absent a
 kind a = by (finite? a) (is_finite a) (is-absent a)
   where
     by : (c : Bool) → (T c → Finite a) → (T (not c) → Absent a) → Finite a ⊎ Absent a

@@ -1,7 +1,8 @@
--- The laws of `zone`, with the theory of zones and document 01's cases on them; proofs of functions stand in folders of their own.
+-- The laws of `zone`, with the theory of zones and the documents' cases on them; proofs of functions stand in folders of their own.
 pub mod Bools
 pub mod Integers
 pub mod Machine
+pub mod Counting
 pub mod Theory
 pub mod Limits
 pub mod KeyLaws
@@ -9,15 +10,20 @@ pub mod KeyCode
 pub mod Loops
 pub mod WordLaws
 pub mod Sizes
+pub mod PointCode
 pub mod SquareTables
 pub mod Regions
 pub mod Spans
 pub mod PartLaws
+pub mod EarliestLaws
+pub mod AtOneScale
 pub mod Attained
 pub mod CheckLaws
 pub mod ReadLaws
 pub mod StoreLaws
 pub mod Deciding
 pub mod Decided
+pub mod WordsAtOneScale
 pub mod OneAnswer
 pub mod Cases
+pub mod PointCases

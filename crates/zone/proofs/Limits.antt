@@ -2,17 +2,20 @@
 use mathlib.Core.Path.{◌≡◌, refl, ap}
 use mathlib.Core.Logic.{◌⊎◌, inl, inr}
 use mathlib.Core.Bool.{Bool, true, false, not, cond}
-use Prim.Native.Nat.{ℕ, ◌+◌, ◌*◌, ◌-◌, ◌≤◌, ◌<◌, max}
+use Prim.Native.Nat.{ℕ, zero, suc, ◌+◌, ◌*◌, ◌-◌, ◌≤◌, ◌<◌, max}
 use native.Mathlib.Nat as N
 use native.Mathlib.Omega.{arith}
-use lib.Dec.{T}
+use lib.Dec.{T, eqb}
 use lib.IntN.{ℤ, pos, negsuc, neg_ℤ, ◌+ℤ◌, ◌-ℤ◌}
 use lib.Signed.{lt_z}
 use Rattle.zone.specs.Keys.{half, lowest}
 use Rattle.zone.specs.Cells.{sum_key}
 use Rattle.zone.proofs.Bools.{not-not}
+use Rattle.zone.proofs.Integers as I
 use Rattle.zone.proofs.Integers.{lt-or-ge, up, dn, lt_z→, nlt_z→, parts_add, parts-less, up_neg, dn-neg}
+use Rattle.zone.proofs.Counting.{bit}
 use Rattle.zone.proofs.Theory.BoundLaws.{BoundLaws}
+use Rattle.zone.proofs.Theory.OneScale.{Chained, Parts}
 
 -- no bound, or the bound with this key
 pub data Limit : Type 0 where
@@ -196,11 +199,7 @@ holds_if k x y w z h (keyed d) p = omega arith
 
 -- an order at scale 2 is one at every scale
 scaled : (k m n o p : ℕ) → 1 ≤ k → o < 2 → p < 2 → 2 * m + o ≤ 2 * n + p → k * m + o ≤ k * n + p
-scaled k m n o p k₁ s t h = by (N.eq-or-lt_of_le (omega arith))
-  where
-    by : (m ≡ n) ⊎ (m < n) → k * m + o ≤ k * n + p
-    by (inl e) = omega (arith, ap (λ i. k * i) e)
-    by (inr l) = omega (arith, N.mul-le-mul_left k l, N.mul-suc k m)
+scaled = I.scaled
 
 -- and back, where nothing is added on the left
 unscaled : (k m n o : ℕ) → 1 ≤ k → o < 2 → k * m < k * n + o → 2 * m < 2 * n + o
@@ -267,6 +266,19 @@ low_meets k x y (keyed v) none h p = holds-none (2 * k) (low k x (keyed v)) (2 *
 low_meets k x y (keyed v) (keyed w) h p =
     let e = simp N.mul-add at (ap (λ n. 2 * k * n) (added v w).parts) in
     omega (arith, twice k (half (sum_key v w)), added v w, (halved v).small, (halved w).small)
+
+-- ---- the least reading, at any scale, of a clock that a bound holds against, where the first one reads x
+abbrev pub least : ℕ → ℕ → Limit → ℕ
+least k x none = 0
+least k x (keyed z) = x + k * dn (half z) + 1 - (k * up (half z) + lowest z)
+
+pub least-holds : (k x y : ℕ) (a : Limit) → least k x a ≤ y → Holds k x y a
+least-holds k x y none h = holds-none k x y
+least-holds k x y (keyed z) h = omega arith
+
+pub holds-least : (k x y : ℕ) (a : Limit) → Holds k x y a → least k x a ≤ y
+holds-least k x y none h = omega arith
+holds-least k x y (keyed z) h = omega arith
 
 -- ---- the bound that holds, the other way round, where a given one fails
 abbrev pub negation : Limit → Limit
@@ -342,7 +354,85 @@ bounds = record {
   low = low;
   low-holds = low-holds;
   low_meets = low_meets;
+  least = least;
+  least-holds = least-holds;
+  holds-least = holds-least;
   negation = negation;
   negation-fails = negation-fails;
   negation-fits = negation-fits;
+}
+
+-- ---- the parts of a bound: its number is half of the key, and it is strict if the key is even
+bit_even : (n : ℕ) → n < 2 → bit (eqb n 0) + n ≡ 1
+bit_even zero h = refl
+bit_even (suc zero) h = refl
+bit_even (suc (suc n)) h = absurd (omega arith)
+
+bit-strict : (z : ℤ) → bit (eqb (lowest z) 0) + lowest z ≡ 1
+bit-strict z = bit_even (lowest z) (halved z).small
+
+abbrev finite? : Limit → Bool
+finite? none = false
+finite? (keyed z) = true
+
+abbrev strict? : Limit → Bool
+strict? none = false
+strict? (keyed z) = eqb (lowest z) 0
+
+abbrev up_of : Limit → ℕ
+up_of none = 0
+up_of (keyed z) = up (half z)
+
+abbrev dn_of : Limit → ℕ
+dn_of none = 0
+dn_of (keyed z) = dn (half z)
+
+least-finite : (k x : ℕ) (a : Limit) → T (finite? a) → least k x a ≡ x + k * dn_of a + bit (strict? a) - k * up_of a
+least-finite k x none t = absurd t
+least-finite k x (keyed z) t = omega (arith, bit-strict z)
+
+least-absent : (k x : ℕ) (a : Limit) → T (not (finite? a)) → least k x a ≡ 0
+least-absent k x none t = refl
+least-absent k x (keyed z) t = absurd t
+
+chained : (a b c : Limit) → a ⊑ b ⊕ c → T (finite? b) → T (finite? c) →
+    Chained (finite? a) (up_of a + dn_of b + dn_of c) (dn_of a + up_of b + up_of c) (strict? a) (strict? b) (strict? c)
+unfolding ◌⊕◌
+chained a none c h f g = absurd f
+chained a (keyed y) none h f g = absurd g
+chained none (keyed y) (keyed z) h f g = absurd h.at
+chained (keyed w) (keyed y) (keyed z) h f g =
+    let s : ℤ = sum_key y z in
+    let l = h.at in
+    let a = added y z in
+    let u = halved w in
+    let v = halved s in
+    let p = bit-strict w in
+    let q = bit-strict y in
+    let r = bit-strict z in
+    record { finite = tt; left = omega arith; right = omega arith }
+
+not-above : (z : ℤ) → up z ≤ dn z → up z ≡ 0
+not-above (pos n) h = omega arith
+not-above (negsuc n) h = refl
+
+at_most : (a : Limit) → a ⊑ at_most_zero → T (finite? a) × (up_of a ≡ 0)
+at_most none h = absurd h.at
+at_most (keyed z) h = (tt, not-above (half z) (omega (arith, h.at, halved z)))
+
+at_least : (a : Limit) → at_most_zero ⊑ a → T (finite? a) → 2 * dn_of a + bit (strict? a) ≤ 2 * up_of a
+at_least none h t = absurd t
+at_least (keyed z) h t = omega (arith, h.at, halved z, bit-strict z)
+
+pub parts : Parts bounds
+parts = record {
+  finite? = finite?;
+  strict? = strict?;
+  up = up_of;
+  dn = dn_of;
+  least-finite = least-finite;
+  least-absent = least-absent;
+  chained = chained;
+  at_most = at_most;
+  at_least = at_least;
 }

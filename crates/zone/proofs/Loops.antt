@@ -16,7 +16,7 @@ use native.Mathlib.Nat.{
 }
 use native.Mathlib.Numerals.{add-one}
 use native.Mathlib.Omega.{arith}
-use lib.ListN.{length, get_or, set, length-set}
+use lib.ListN.{length, get_or, set, replicate, length-set, get_or-eq_default}
 use lib.Seq.{get_or-set_same, get_or-set_other, ext_get_or}
 use Rattle.zone.specs.Cells.{past_end}
 use Rattle.zone.specs.Squares.{cell, list_of, all?}
@@ -48,11 +48,26 @@ from d f (suc n) p (suc k) h = from d f n (suc p) k (le_of_suc-le-suc h) ∙ ap 
 pub list_of-at : {A : Type 0} (d : A) (f : ℕ → A) (n k : ℕ) → k < n → get_or (list_of f n 0) k d ≡ f k
 list_of-at d f n k h = from d f n 0 k h ∙ ap f (zero-add k)
 
+-- what every value has, and what is read past the end, every read has
+pub list_of-all :
+    {A : Type 0} (P : A → Type 0) (d : A) (f : ℕ → A) (n : ℕ) → P d → ((k : ℕ) → P (f k)) → (k : ℕ) → P (get_or (list_of f n 0) k d)
+list_of-all P d f n p h k = by (lt-or-ge k n)
+  where
+    by : (k < n) ⊎ (n ≤ k) → P (get_or (list_of f n 0) k d)
+    by (inl l) = rw (list_of-at d f n k l) (h k)
+    by (inr l) = let e = list_of-length f n 0 in rw (get_or-eq_default (list_of f n 0) d {n = k} (omega arith)) p
+
 -- two functions with the same values have the same list
 pub list_of-same : {A : Type 0} (f g : ℕ → A) (n p : ℕ) → ((k : ℕ) → k < p + n → f k ≡ g k) → list_of f n p ≡ list_of g n p
 unfolding list_of
 list_of-same f g zero p h = refl
 list_of-same f g (suc n) p h = ap₂ ◌∷◌ (h p (omega arith)) (list_of-same f g n (suc p) (λ k l. h k (omega arith)))
+
+-- ---- a list of one value alone
+pub same_at : {A : Type 0} (n q : ℕ) (a : A) → get_or (replicate n a) q a ≡ a
+same_at zero q a = refl
+same_at (suc n) zero a = refl
+same_at (suc n) (suc q) a = same_at n q a
 
 -- ---- an array of n values that has the goal's below p, and from p on those that it had; d is what it reads past its end
 pub record Filled {A : Type 0} (d : A) (n : ℕ) (goal old : List A) (p : ℕ) (xs : List A) : Type 0 where

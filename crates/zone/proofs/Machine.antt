@@ -1,14 +1,15 @@
 -- Sizes of signed sums, and what a signed word of the machine reads back. Assumes nothing.
-use Prim.Native.Nat.{ℕ, zero, suc, ◌+◌, ◌^◌, ◌<◌}
-use mathlib.Core.Path.{◌≡◌}
+use Prim.Native.Nat.{ℕ, zero, suc, ◌+◌, ◌^◌, ◌≤◌, ◌<◌}
+use mathlib.Core.Path.{◌≡◌, refl, ◌∙◌}
 use mathlib.Core.Bool.{Bool, true, false, cond}
 use native.Mathlib.Omega.{arith}
-use lib.Dec.{ltb}
-use lib.IntN.{ℤ, pos, negsuc, neg_ℤ, ◌+ℤ◌, ◌-ℤ◌, +ℤ_idl}
-use lib.Signed.{mag}
+use lib.Dec.{T, ltb}
+use lib.IntN.{ℤ, pos, negsuc, nat_abs, neg_ℤ, ◌+ℤ◌, ◌-ℤ◌, +ℤ_idl}
+use lib.Signed.{mag, non_neg}
 use mir.Syntax.{w32, w64}
-use mir.Val.{SFits, to_z, of_z}
+use mir.Val.{Fits, SFits, to_z, of_z}
 use mir.Facts.{to_z-of_z}
+use Rattle.zone.proofs.Integers.{up, dn, parts_add}
 
 pub mag-cond : (t : Bool) {x y n : ℕ} → x < n → y < n → mag (cond t (negsuc x) (pos y)) < n
 mag-cond true h k = h
@@ -62,3 +63,40 @@ module _ (a b : ℤ) (h : mag a < 2 ^ 31) (k : mag b < 2 ^ 31) where
       ≡ a -ℤ b
   wide-difference =
       rw (back32 a h, to_z-of_z left, back32 b k, to_z-of_z right, +ℤ_idl (neg_ℤ b), to_z-of_z negated) (to_z-of_z difference)
+
+-- ---- a number that is not negative
+pub record NotNegative (y : ℤ) : Type 0 where
+  pub test : T (non_neg y)
+  pub abs : nat_abs y ≡ up y
+  pub size : mag y ≡ up y
+  pub none : dn y ≡ 0
+
+pub not_negative : (y : ℤ) → dn y ≤ up y → NotNegative y
+not_negative (pos m) l = record { test = tt; abs = refl; size = refl; none = refl }
+not_negative (negsuc m) l = absurd (omega arith)
+
+-- ---- the sum of a signed number and a natural, where it is not negative, as an unsigned word
+abbrev pub lifted : ℤ → ℕ → ℤ
+lifted z m = to_z w32 (of_z w32 z) +ℤ pos m
+
+abbrev pub unsigned : ℤ → ℕ
+unsigned y = nat_abs (to_z w32 (of_z w32 y))
+
+module _ (z : ℤ) (m : ℕ) (h : mag z < 2 ^ 31) (low : dn z ≤ up z + m) (high : up z + m < 2 ^ 31 + dn z) where
+  is-lifted : lifted z m ≡ z +ℤ pos m
+  is-lifted = rw (back32 z h) refl
+
+  plain : NotNegative (z +ℤ pos m)
+  plain = not_negative (z +ℤ pos m) (omega (arith, parts_add z (pos m)))
+
+  pub lifted-fits : SFits w32 (lifted z m)
+  lifted-fits = rw is-lifted (record { sfits = omega (arith, plain, parts_add z (pos m)) })
+
+  lifted-back : to_z w32 (of_z w32 (lifted z m)) ≡ z +ℤ pos m
+  lifted-back = to_z-of_z lifted-fits ∙ is-lifted
+
+  pub lifted-parts : unsigned (lifted z m) + dn z ≡ up z + m
+  lifted-parts = rw lifted-back (omega (arith, plain, parts_add z (pos m)))
+
+  pub lifted-cast : T (non_neg (to_z w32 (of_z w32 (lifted z m)))) × Fits w32 (unsigned (lifted z m))
+  lifted-cast = (rw lifted-back plain.test, omega (arith, lifted-parts))

@@ -27,7 +27,7 @@ module _ (b : Bound) where
   unfolding negated
   cell-opposite = ap (λ (z : ℤ). record { key = z }) (key-opposite b.d b.strict)
 
-  number-opposite : nat_abs b.d < 4096 → nat_abs (neg_ℤ b.d) < 4096
+  pub number-opposite : nat_abs b.d < 4096 → nat_abs (neg_ℤ b.d) < 4096
   number-opposite h = omega (arith, abs-parts b.d, abs-parts (neg_ℤ b.d), up_neg b.d, dn-neg b.d)
 
   -- the table with the negated bound stands for the rest

@@ -8,7 +8,7 @@ use native.Mathlib.Nat.{one-mul, add-mul, mul-le-mul_right, pow-le-pow_right, tw
 use native.Mathlib.Omega.{arith}
 use lib.Dec.{eqb}
 use lib.IntN.{nat_abs}
-use lib.ListN.{length, get_or, set, get_or-eq_default}
+use lib.ListN.{length, get_or, set}
 use lib.Pow.{pow-add}
 use lib.Seq.{get_or-set_same, get_or-set_other, set_out}
 use Rattle.zone.specs.Cells.{unbounded, at_most_zero, tighter_of, size, past_end}
@@ -24,7 +24,7 @@ use Rattle.zone.proofs.Bools.{by-test}
 use Rattle.zone.proofs.Integers.{lt-or-ge}
 use Rattle.zone.proofs.KeyLaws.{size-tighter_of, size-passed, size-cell_of}
 use Rattle.zone.proofs.WordLaws.{good-number}
-use Rattle.zone.proofs.Loops.{list_of-length, list_of-at}
+use Rattle.zone.proofs.Loops.{list_of-all}
 
 size-cond : (t : Bool) (a b : Cell) {n : ℕ} → size a < n → size b < n → size (cond t a b) < n
 size-cond t a b {n} h k = by-test (λ c. size c < n) t a b (λ _. h) (λ _. k)
@@ -46,14 +46,7 @@ small-weaken s h = record { at = λ p. let g = s.at p in omega arith }
 
 -- a table is as small as the values it is made of
 small-cells : (f : ℕ → Cell) {n : ℕ} → ((p : ℕ) → size (f p) < n) → Small n (record { cells = list_of f 25 0 })
-small-cells f {n} h = record { at = λ p. by p (lt-or-ge p 25) }
-  where
-    by : (p : ℕ) → (p < 25) ⊎ (25 ≤ p) → size (get_or (list_of f 25 0) p past_end) < n
-    by p (inl l) = rw (list_of-at past_end f 25 p l) (h p)
-    by p (inr l) =
-        let g = list_of-length f 25 0 in
-        let o = h 0 in
-        rw (get_or-eq_default (list_of f 25 0) past_end {n = p} (omega arith), size-past_end) (omega arith)
+small-cells f {n} h = record { at = list_of-all (λ a. size a < n) past_end f 25 (let o = h 0 in rw size-past_end (omega arith)) h }
 
 small-square : (f : ℕ → ℕ → Cell) {n : ℕ} → ((i j : ℕ) → size (f i j) < n) → Small n (square_of f)
 small-square f h = small-cells _ (λ p. h _ _)
@@ -159,3 +152,7 @@ tightens-read C ws = tightens-fewer 1 3 _ (omega arith) (read-tightens C ws)
 -- what is read can be tightened
 pub read_fits : (C : ℕ) (ws : List ℕ) (r : ZoneRead) → r ≡ read_zone C ws → Tightens 1 r.zone
 read_fits C ws r e = rw e (tightens-read C ws)
+
+-- and so can what it is tightened to
+pub tightened-fits : (C : ℕ) (ws : List ℕ) (r : ZoneRead) (z : Square) → r ≡ read_zone C ws → z ≡ tightened r.zone → Tightens 1 z
+tightened-fits C ws r z e f = rw (f, e) (tightens-fewer 1 2 _ (omega arith) (tightens-less 2 (read_zone C ws).zone (omega arith) (read-tightens C ws)))

@@ -8,3 +8,5 @@ pub mod Inside
 pub mod Delay
 pub mod Reset
 pub mod Reach
+pub mod OneScale
+pub mod Rounds

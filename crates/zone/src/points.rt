@@ -1,0 +1,119 @@
+// The earliest point of a zone (document 02, card 6): of all its valuations at scale C + 1, the one in which every clock is smallest.
+ghost use Rattle.std.specs.Prelude.{◌≡◌, ◌≤◌, ◌<◌, ◌-◌, ◌^◌, max, suc};
+ghost use Rattle.zone.specs.Cells.{size};
+ghost use Rattle.zone.specs.Squares.{Tightens};
+ghost use Rattle.zone.specs.Points.{least_second, raised_by, round_of, rounds_of, earliest_of, is_none?, Below};
+
+use crate::bounds::Bound;
+use crate::zones::Zone;
+
+// What clocks 1 to 4 read.
+#[derive(Clone, Copy)]
+pub struct Point {
+    pub c1: u32,
+    pub c2: u32,
+    pub c3: u32,
+    pub c4: u32,
+}
+
+// The earliest point of a zone; an empty one has none.
+#[derive(Clone, Copy)]
+pub enum Earliest {
+    None,
+    At(Point),
+}
+
+impl Earliest {
+    pub fn is_none(self) -> bool
+        ensures { result ≡ is_none? self }
+    {
+        match self {
+            Earliest::None => true,
+            Earliest::At(_) => false,
+        }
+    }
+}
+
+// What the five clocks read, clock 0 first.
+#[derive(Clone, Copy)]
+pub(crate) struct Readings {
+    pub clocks: [u32; 5],
+}
+
+impl Readings {
+    pub(crate) const ZERO: Readings = Readings { clocks: [0; 5] };
+}
+
+// The larger of `second` and the least that the second clock of a bound may read, at a scale, where the first one reads `first`. The sum of the key and
+// 2^24 is 2 * (d + 2^23), and one more unless the bound is strict, so that no number here is negative. The key of an absent bound is so large that it
+// asks for nothing.
+pub(crate) fn raised(bound: Bound, scale: u32, first: u32, second: u32) -> u32
+    requires { (size bound < 2 ^ 23) × (1 ≤ scale) × (scale ≤ 5) × (first < 2 ^ 27) × (second < 2 ^ 28) }
+    ensures { result ≡ max second (least_second scale bound first) }
+{
+    let field = (bound.key + 0x100_0000) as u32;
+    let asked = first + scale * 0x80_0000 + (1 - field % 2);
+    let allowed = scale * (field / 2);
+    if second + allowed < asked {
+        asked - allowed
+    } else {
+        second
+    }
+}
+
+// Each clock raised as far as its bound with clock i asks, at a scale, where clock i reads `first`.
+pub(crate) fn raise(zone: Zone, i: usize, scale: u32, first: u32, reads: Readings) -> Readings
+    requires { Tightens 1 zone × (i < 5) × (1 ≤ scale) × (scale ≤ 5) × (first < 2 ^ 27) × Below (2 ^ 28) reads.clocks }
+    ensures { result.clocks ≡ raised_by scale zone i first reads.clocks }
+{
+    let mut out = reads;
+    for j in 0..5 {
+        out.clocks[j] = raised(zone.cells[i * 5 + j], scale, first, reads.clocks[j]);
+    }
+    out
+}
+
+// One round over n clocks, clock 0 among them, at scale n: what their bounds ask where they read so.
+pub(crate) fn round(zone: Zone, n: usize, reads: Readings) -> Readings
+    requires { Tightens 1 zone × (1 ≤ n) × (n ≤ 5) × Below (2 ^ 27) reads.clocks }
+    ensures { result.clocks ≡ round_of n zone reads.clocks }
+{
+    let mut least = Readings::ZERO;
+    for i in 0..n {
+        let first = reads.clocks[i];
+        least = raise(zone, i, n as u32, first, least);
+    }
+    least
+}
+
+// From the lower bounds, one round less than there are clocks.
+pub(crate) fn rounds(zone: Zone, clocks: usize) -> Readings
+    requires { Tightens 1 zone × (clocks ≤ 4) }
+    ensures { result.clocks ≡ rounds_of (suc clocks) zone (clocks - 1) }
+{
+    let n = clocks + 1;
+    let mut reads = raise(zone, 0, n as u32, 0, Readings::ZERO);
+    for _ in 1..clocks {
+        reads = round(zone, n, reads);
+    }
+    reads
+}
+
+impl Zone {
+    // Of a tightened zone over so many clocks, the earliest point at the scale one above.
+    pub fn earliest(self, clocks: u32) -> Earliest
+        requires { Tightens 1 self × (clocks ≤ 4) }
+        ensures { result ≡ earliest_of clocks self }
+    {
+        if self.is_empty() {
+            return Earliest::None;
+        }
+        let reads = rounds(self, clocks as usize);
+        Earliest::At(Point {
+            c1: reads.clocks[1],
+            c2: reads.clocks[2],
+            c3: reads.clocks[3],
+            c4: reads.clocks[4],
+        })
+    }
+}
