@@ -8,7 +8,7 @@ ghost use Rattle.std.specs.Counts.{IsPrefixLen};
 use std::io::Read;
 
 // How many bytes were read, and whether a read failed. If none did, the input has ended or fills the buffer.
-#[derive(Drop)]
+#[derive(Clone, Copy)]
 pub struct Input {
     pub count: usize,
     pub failed: bool,

@@ -11,7 +11,7 @@ use itoa::Buffer;
 pub const LONGEST: usize = 72;
 
 // A line of text: the first `count` bytes.
-#[derive(Drop)]
+#[derive(Clone, Copy)]
 pub struct Line {
     pub bytes: [u8; LONGEST],
     pub count: usize,
@@ -30,9 +30,9 @@ impl Line {
     {
         let mut line = self;
         for k in 0..text.len() {
-            line.bytes[line.count + k] = text[k];
+            line.bytes[self.count + k] = text[k];
         }
-        line.count += text.len();
+        line.count = self.count + text.len();
         line
     }
 

@@ -1,5 +1,5 @@
 -- Proof of `miss_chance_submit`: what `load`, `decide` and `put` come to together is a submission.
-use Rattle.std.proofs.Common.{◌<◌, ◌^◌, length, rules, arith}
+use Rattle.std.proofs.Common.{◌<◌, ◌^◌, length, rules}
 use Rattle.board.proofs.DecisionLaws.{submits}
 use Rattle.miss_chance.proofs.miss_chance_submit.Goals as goal
 

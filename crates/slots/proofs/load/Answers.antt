@@ -1,12 +1,11 @@
 -- Proof of `load`: each turn reads one slot more, and after the last one there are as many as are lent, or 16.
-use Rattle.std.proofs.Common.{◌≡◌, ◌<◌, sym, ap, arith, ◌∙◌, subst, Bool, true, ◌&&◌}
-use Rattle.std.proofs.lemmas.Bool.Decides.{nat_tests}
+use Rattle.std.proofs.Common.{◌<◌, sym, ap, arith, ◌∙◌, subst}
 use lib.Dec.{T, ltb, ltb→lt}
 use mathlib.Core.Bool.{not}
-use Rattle.slots.specs.Loading.{Loads, with_slot}
+use Rattle.slots.specs.Loading.{with_slot}
 use Rattle.slots.specs.Slots.{vacant}
 use lib.ListN.{length, get_or}
-use Rattle.slots.proofs.LoadLaws.{loaded, loaded-none, loaded-more, loaded-loads, both, not-both}
+use Rattle.slots.proofs.LoadLaws.{loaded-none, loaded-more, loaded-loads, both, not-both}
 use Rattle.slots.proofs.load.Goals as goal
 
 pub loop-i-init : goal.loop-i-init

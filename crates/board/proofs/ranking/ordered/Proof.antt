@@ -6,7 +6,6 @@ use borrow.Author.Rules.{rules}
 use mathlib.Core.Bool.{Bool, true, false, not, ◌&&◌}
 use mathlib.Core.Logic.{◌⊎◌, inl, inr}
 use lib.Dec.{T, ltb, ltb→lt, nltb→le}
-use lib.ListN.{length-map}
 use Rattle.slots.specs.Slots.{vacant}
 use Rattle.zone.proofs.Bools.{false_true}
 use Rattle.board.specs.Deciding.{good_lent?}

@@ -4,7 +4,7 @@ use mathlib.Core.Path.{◌≡◌, refl, sym, ap, ◌∙◌}
 use mathlib.Core.Bool.{◌&&◌}
 use native.Mathlib.Omega.{arith}
 use borrow.Author.Rules.{rules}
-use lib.ListN.{length, length-map, drop}
+use lib.ListN.{length, drop}
 use Rattle.slots.specs.Slots.{vacant}
 use Rattle.board.specs.Board.{good_slot?, all_good?}
 use Rattle.board.specs.Deciding.{good_lent?}

@@ -1,7 +1,6 @@
 -- Proof of `filled_front`: at cell p, the words taken so far, before those of the bounds that are left, are the front words.
 use Prim.Native.Nat.{◌-◌}
 use mathlib.Core.Path.{refl, sym, ◌∙◌}
-use mathlib.Core.Logic.{⊎_elim}
 use native.Mathlib.Omega.{arith}
 use borrow.Author.Rules.{rules}
 use borrow.Author.Tests.{not-true, not-false}

@@ -1,10 +1,9 @@
 -- Proof of `place`: a narrow front may be a known node's; otherwise a node is added.
 use Prim.Native.Nat.{◌≤◌}
 use mathlib.Core.Path.{◌≡◌, sym, ◌∙◌}
-use mathlib.Core.Logic.{⊎_elim}
 use native.Mathlib.Omega.{arith}
 use borrow.Author.Rules.{rules}
-use lib.ListN.{length, length-map}
+use lib.ListN.{length}
 use lib.Seq.{length-take-le}
 use Rattle.draft.proofs.NodeLaws.{still, fronts-length, known-below, placed-known, placed-new, placed-wide}
 use Rattle.draft.proofs.nodes.place.Statement.{statement}

@@ -3,7 +3,7 @@ use Prim.Native.Nat.{◌+◌, ◌≤◌, ◌-◌}
 use mathlib.Core.Path.{◌≡◌, refl}
 use native.Mathlib.Omega.{arith}
 use borrow.Author.Rules.{rules}
-use lib.ListN.{length, length-map}
+use lib.ListN.{length}
 use Rattle.draft.proofs.NodeLaws.{Putting, put-none, put_word, put-length, put_holds, put-fronts}
 use Rattle.draft.proofs.nodes.put_node.Statement.{statement}
 use Rattle.draft.proofs.nodes.put_node.Tie as tie

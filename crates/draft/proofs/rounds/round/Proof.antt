@@ -1,10 +1,8 @@
 -- Proof of `round`: the values of the nodes so far are replaced, each by what the old ones give; those that it gives again are left as they are.
 use Prim.Native.Nat.{◌-◌}
 use mathlib.Core.Path.{sym}
-use mathlib.Core.Logic.{⊎_elim}
 use native.Mathlib.Omega.{arith}
 use borrow.Author.Rules.{rules}
-use borrow.Author.Tests.{not-true, not-false}
 use Rattle.draft.proofs.LocatedLaws.{located-at}
 use Rattle.draft.proofs.RoundCode.{begin_limited, RoundTo, round_begin, round-target, round_same, round-next, round-end}
 use Rattle.draft.proofs.rounds.round.Statement.{statement}

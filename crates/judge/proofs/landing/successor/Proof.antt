@@ -1,7 +1,6 @@
 -- Proof of `successor`: by the definition's tests: of the location, whether the reach is empty, whether the successor's zone lies within the invariant
 -- and holds the landings, whether every landing is inside, and whether that zone holds those that are.
 use mathlib.Core.Path.{◌≡◌, refl, sym, ap₂, ◌∙◌}
-use mathlib.Core.Logic.{⊎_elim}
 use mathlib.Core.Bool.{true, false, ◌&&◌, ◌||◌}
 use native.Mathlib.Omega.{arith}
 use borrow.Author.Rules.{rules}

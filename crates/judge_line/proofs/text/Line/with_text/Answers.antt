@@ -1,5 +1,5 @@
 -- A byte more is copied to its place; all are copied.
-use Rattle.std.proofs.Common.{◌≡◌, ℕ, ◌+◌, ◌<◌, ◌≤◌, List, ◌++◌, length, get_or, take, set, ap, ◌∙◌, arith, rules, add-one}
+use Rattle.std.proofs.Common.{refl, ◌≡◌, ℕ, ◌+◌, ◌<◌, ◌≤◌, List, ◌++◌, length, get_or, take, set, ap, ◌∙◌, arith, rules, add-one}
 use lib.Seq.{paste, paste-suc, take-paste, take-length}
 use Rattle.judge_line.proofs.text.Line.with_text.Goals as goal
 
@@ -18,10 +18,10 @@ loop-k-preserved c =
     record {
       same_count = kept.same_count;
       same_length = search rules;
-      copied = byte_more _ _ _ _ _ kept.same_count kept.copied (search rules) c.loop-k-test.true;
+      copied = byte_more _ _ _ _ _ refl kept.copied (search rules) c.loop-k-test.true;
     }
 
 pub returns : goal.returns
 returns c =
     let kept = c.loop-k.invariant in
-    (all_copied _ _ _ _ _ kept.same_count kept.copied (search rules) (omega arith), search rules)
+    (all_copied _ _ _ _ _ refl kept.copied (search rules) (omega arith), search rules)

@@ -7,7 +7,7 @@ use native.Mathlib.Omega.{arith}
 use borrow.Author.Rules.{rules}
 use borrow.Author.Tests.{eq-eqb, ne_eqb}
 use lib.Dec.{eqb}
-use lib.ListN.{get_or, set, length-map}
+use lib.ListN.{get_or, set}
 use Rattle.zone.specs.Cells.{unbounded, past_end}
 use Rattle.zone.specs.Squares.{delayed_square}
 use Rattle.zone.specs.declared.bounds.Bound.{Bound as Cell}

@@ -4,7 +4,7 @@ use mathlib.Core.Path.{◌≡◌, ◌∙◌}
 use native.Mathlib.Nat.{div-add-mod'}
 use native.Mathlib.Omega.{arith}
 use borrow.Author.Rules.{rules}
-use lib.ListN.{get_or, length-map}
+use lib.ListN.{get_or}
 use Rattle.zone.specs.Cells.{tighter_of, past_end}
 use Rattle.zone.specs.Squares.{met}
 use Rattle.zone.specs.declared.zones.Zone.{Zone as Square}

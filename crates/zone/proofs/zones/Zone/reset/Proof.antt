@@ -4,7 +4,7 @@ use mathlib.Core.Path.{◌≡◌, sym}
 use mathlib.Core.List.{List}
 use native.Mathlib.Omega.{arith}
 use borrow.Author.Rules.{rules}
-use lib.ListN.{get_or, length-map}
+use lib.ListN.{get_or}
 use Rattle.zone.specs.Cells.{past_end}
 use Rattle.zone.specs.Squares.{cell, list_of, source, reset_square}
 use Rattle.zone.specs.declared.zones.Zone.{Zone as Square}

@@ -5,7 +5,7 @@ use mathlib.Core.List.{List}
 use native.Mathlib.Numerals.{add-one}
 use native.Mathlib.Omega.{arith}
 use borrow.Author.Rules.{rules}
-use lib.ListN.{length, set, length-map}
+use lib.ListN.{length, set}
 use Rattle.zone.specs.Cells.{tighter_of, sum, past_end}
 use Rattle.zone.specs.Squares.{Small, cell, passed, passed_below}
 use Rattle.zone.specs.declared.bounds.Bound.{Bound as Cell}
