@@ -1,10 +1,13 @@
 -- The program that drafts, from the bytes that it reads to the draft and its answer. Assumes nothing.
-use Rattle.std.specs.Prelude.{ℕ, ◌<◌, ◌≤◌, ◌%◌, ◌≡◌, List, length, get_or, drop}
+use Rattle.std.specs.Prelude.{ℕ, ◌<◌, ◌≤◌, ◌%◌, ◌≡◌, Bool, true, false, cond, eqb, List, length, get_or, take, drop, Option, IfSome}
+use Rattle.std.specs.Io.KnownBytes.{Keeps, Appends}
 use Rattle.zone.specs.Checks.{Answer, refused}
 use Rattle.judge_line.specs.Bytes.{words_of}
+use Rattle.judge_line.specs.Text.{line_of}
 use Rattle.drafting.specs.Drafting.{Drafted}
 use Rattle.draft.specs.Numbers.{numbered}
 use Rattle.draft.specs.declared.numbers.Numbered.{Numbered}
+use Rattle.draft_cli.specs.Text.{lines_of}
 
 -- what the program tells of the bytes that it reads, with the words lent for the table before and after. Before anything is read as words, 42: over
 -- 65,536 bytes of a model; then 41: length not a multiple of 4; both leave the lent words as they are. Else the first word is the number of rounds, and
@@ -15,3 +18,23 @@ pub record DraftsInput (bytes lent : List ℕ) (told : Numbered) (after : List �
   pub long : 65540 < length bytes → (answer ≡ refused 42 0) × (after ≡ lent)
   pub broken : length bytes ≤ 65540 → (length bytes % 4 ≡ 0 → ⊥) → (answer ≡ refused 41 0) × (after ≡ lent)
   pub words : length bytes ≤ 65540 → length bytes % 4 ≡ 0 → Drafted (drop 1 (words_of bytes)) (get_or (words_of bytes) 0 0) lent answer after
+
+-- what is printed of an answer: the words of the draft, one to a line, or the line of the refusal
+abbrev pub printed : Numbered → List ℕ → List ℕ
+printed told table = cond (eqb told.number 0) (lines_of (take told.length table)) (line_of (refused told.number told.place))
+
+-- what was told of some bytes was printed; they are the whole input where its bytes are known, and as many words were lent as the longest draft has
+pub record Draft (input before after : Option (List ℕ)) : Type 0 where
+  pub bytes : List ℕ
+  pub lent : List ℕ
+  pub told : Numbered
+  pub table : List ℕ
+  pub whole : IfSome input (λ xs. xs ≡ bytes)
+  pub many : length lent ≡ 9602
+  pub drafts : DraftsInput bytes lent told table
+  pub writes : Appends before after (printed told table)
+
+-- the output before and after: an answer more or, where the input could not be read to its end, nothing
+abbrev pub Answers : Option (List ℕ) → Bool → Option (List ℕ) → Option (List ℕ) → Type 0
+Answers input true before after = Draft input before after
+Answers input false before after = Keeps before after
