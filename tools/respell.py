@@ -69,6 +69,9 @@ def std_words():
 
 def main():
     texts = {p: open(p, encoding="utf-8").read() for p in files((".antt", ".rt"))}
+    if any("no_kind_lem" in t for t in texts.values()):
+        print("respell: the names are turned already, and a second run would turn some again")
+        return 1
     heads, fields, tops, types, tokens, declared = set(), set(), set(), set(), set(), set()
     for p, t in texts.items():
         if p.endswith(".antt"):

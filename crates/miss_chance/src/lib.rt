@@ -21,8 +21,7 @@ use slots::Slot;
 use zone::questions;
 
 // Judges a table against a model.
-#[unsafe(no_mangle)]
-pub extern "C" fn miss_chance_judge(model: &[u32], table: &[u32], answer: &mut [u64]) -> bool
+pub fn miss_chance_judge(model: &[u32], table: &[u32], answer: &mut [u64]) -> bool
     ensures { Replies (Verdicts model.now table.now) certificate_words answer.old answer.new result }
 {
     if answer.len() < 4 {
@@ -33,13 +32,7 @@ pub extern "C" fn miss_chance_judge(model: &[u32], table: &[u32], answer: &mut [
 }
 
 // Drafts a table for a model into the words lent for it, with values after so many rounds. A refusal leaves them as they are.
-#[unsafe(no_mangle)]
-pub extern "C" fn miss_chance_draft(
-    model: &[u32],
-    rounds: u64,
-    table: &mut [u32],
-    answer: &mut [u64],
-) -> bool
+pub fn miss_chance_draft(model: &[u32], rounds: u64, table: &mut [u32], answer: &mut [u64]) -> bool
     ensures { RepliesDraft model.now rounds table.old table.new answer.old answer.new result }
 {
     if answer.len() < 4 {
@@ -50,8 +43,7 @@ pub extern "C" fn miss_chance_draft(
 }
 
 // Reads a model.
-#[unsafe(no_mangle)]
-pub extern "C" fn miss_chance_read_model(model: &[u32], answer: &mut [u64]) -> bool
+pub fn miss_chance_read_model(model: &[u32], answer: &mut [u64]) -> bool
     ensures { Replies (ReadModel model.now) counts_words answer.old answer.new result }
 {
     if answer.len() < 4 {
@@ -62,8 +54,7 @@ pub extern "C" fn miss_chance_read_model(model: &[u32], answer: &mut [u64]) -> b
 }
 
 // Asks whether a zone is empty at every scale.
-#[unsafe(no_mangle)]
-pub extern "C" fn miss_chance_zone_empty(clocks: u32, zone: &[u32], answer: &mut [u64]) -> bool
+pub fn miss_chance_zone_empty(clocks: u32, zone: &[u32], answer: &mut [u64]) -> bool
     ensures { Replies (AskedEmpty clocks zone.now) yes_words answer.old answer.new result }
 {
     if answer.len() < 4 {
@@ -77,8 +68,7 @@ pub extern "C" fn miss_chance_zone_empty(clocks: u32, zone: &[u32], answer: &mut
 }
 
 // Asks whether the first zone lies inside the second at every scale.
-#[unsafe(no_mangle)]
-pub extern "C" fn miss_chance_zone_inside(
+pub fn miss_chance_zone_inside(
     clocks: u32,
     first: &[u32],
     second: &[u32],
@@ -97,8 +87,7 @@ pub extern "C" fn miss_chance_zone_inside(
 }
 
 // Submits a table for a slot. A submission that gets as far as the judge spends one of the allowance, and an accepted one writes the slot.
-#[unsafe(no_mangle)]
-pub extern "C" fn miss_chance_submit(
+pub fn miss_chance_submit(
     slots: &mut [Slot],
     ledger: Ledger,
     request: Request,
@@ -114,8 +103,7 @@ pub extern "C" fn miss_chance_submit(
 }
 
 // The held slots in rank.
-#[unsafe(no_mangle)]
-pub extern "C" fn miss_chance_rank(slots: &[Slot]) -> Ranking
+pub fn miss_chance_rank(slots: &[Slot]) -> Ranking
     ensures { Ranks slots.now result }
 {
     ranking::ranked(slots::load(slots))

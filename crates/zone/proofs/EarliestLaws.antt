@@ -49,13 +49,13 @@ asks k z i j hi hj x = least-second k (cell z i j) x ∙ ap (least k x) (sym (ta
 
 -- what they begin with is the theory's first round
 module _ (n : ℕ) (z : Square) (n₁ : 1 ≤ n) (n₅ : n ≤ 5) (good : Good bounds n (table_of z)) where
-  pub rounds-read : (r j : ℕ) → j < 5 → get_or (rounds_of n z r) j 0 ≡ rounds bounds n (table_of z) (suc r) j
+  pub rounds-read : (r j : ℕ) → j < 5 → get_or (rounds_of n z r) j 0 ≡ rounds bounds parts n (table_of z) (suc r) j
   unfolding rounds_of round_of rounds
   rounds-read zero j h =
       let begins = raised_at n z 0 0 (replicate 5 0) j h in
       let nothing = same_at {A = ℕ} 5 j 0 in
       let first = asks n z 0 j (omega arith) h 0 in
-      omega (arith, first_round bounds n (table_of z) good n₁ j)
+      omega (arith, first_round bounds parts n (table_of z) good n₁ j)
   rounds-read (suc r) j h =
       round-at n n z (rounds_of n z r) j h
       ∙ most-same n _ _ (λ i l. asks n z i j (omega arith) h (get_or (rounds_of n z r) i 0) ∙ ap (λ x. least n x (table_of z i j)) (rounds-read r i (omega arith)))
@@ -131,27 +131,27 @@ module _ {R : Region} {z : Square} (c : ℕ) (few : suc c ≤ 4) (fits : Tighten
 
   -- the theory's rounds, with the clocks above C at 0
   v : Valuation
-  v i = cond (ltb i n) (rounds bounds n A (suc c) i) 0
+  v i = cond (ltb i n) (rounds bounds parts n A (suc c) i) 0
 
-  v_low : (i : ℕ) → i < n → v i ≡ rounds bounds n A (suc c) i
+  v_low : (i : ℕ) → i < n → v i ≡ rounds bounds parts n A (suc c) i
   unfolding v
-  v_low i h = ap (λ (b : Bool). cond b (rounds bounds n A (suc c) i) 0) (lt-ltb i n h)
+  v_low i h = ap (λ (b : Bool). cond b (rounds bounds parts n A (suc c) i) 0) (lt-ltb i n h)
 
   v_high : (i : ℕ) → n ≤ i → v i ≡ 0
   unfolding v
-  v_high i h = ap (λ (b : Bool). cond b (rounds bounds n A (suc c) i) 0) (le-ltb i n h)
+  v_high i h = ap (λ (b : Bool). cond b (rounds bounds parts n A (suc c) i) 0) (le-ltb i n h)
 
   v₀ : v 0 ≡ 0
   unfolding n
-  v₀ = v_low 0 (omega arith) ∙ rounds₀ bounds n A parts good c refl
+  v₀ = v_low 0 (omega arith) ∙ rounds₀ bounds parts n A good c refl
 
   -- it is in the table: the bounds of the clocks up to C hold after the rounds, and the others hold anyway
   in_table : In bounds 5 (table_of z) n v
   unfolding n A
   in_table = record { at = λ i j hi hj. at i j hi hj (lt-or-ge (suc c) i) (lt-or-ge (suc c) j) }
     where
-      few-in : In bounds n (table_of z) n (rounds bounds n A (suc c))
-      few-in = in_close bounds 5 (table_of z) (omega arith) (rw (← table-tightened z fits) (rounds_in bounds n A parts good c refl))
+      few-in : In bounds n (table_of z) n (rounds bounds parts n A (suc c))
+      few-in = in_close bounds 5 (table_of z) (omega arith) (rw (← table-tightened z fits) (rounds_in bounds parts n A good c refl))
 
       anyway : (i j : ℕ) → i < 5 → j < 5 → (suc c < i) ⊎ (suc c < j) → bounds.Holds n (v i) (v j) (table_of z i j)
       anyway i j hi hj o = unused.at i j hi hj o n (v i) (v j) (λ q. ap v q ∙ v₀) (λ q. ap v q)
@@ -176,7 +176,7 @@ module _ {R : Region} {z : Square} (c : ℕ) (few : suc c ≤ 4) (fits : Tighten
   unfolding n A
   reads i h = by (lt-or-ge i n)
     where
-      same : get_or (rounds_of n (tightened z) c) i 0 ≡ rounds bounds n A (suc c) i
+      same : get_or (rounds_of n (tightened z) c) i 0 ≡ rounds bounds parts n A (suc c) i
       same = rounds-read n (tightened z) (omega arith) (omega arith) good c i h
 
       by : (i < n) ⊎ (n ≤ i) → get_or (rounds_of n (tightened z) c) i 0 ≡ v i
@@ -186,7 +186,7 @@ module _ {R : Region} {z : Square} (c : ℕ) (few : suc c ≤ 4) (fits : Tighten
             arith,
             same,
             v_high i l,
-            rounds-least bounds n A v (fewer in-tightened) (suc c) i (λ k hk. in-tightened.at k i (omega arith) h),
+            rounds-least bounds parts n A v (fewer in-tightened) (suc c) i (λ k hk. in-tightened.at k i (omega arith) h),
           )
 
   is-v : (i : ℕ) → point_at (suc c) z i ≡ v i
@@ -208,7 +208,7 @@ module _ {R : Region} {z : Square} (c : ℕ) (few : suc c ≤ 4) (fits : Tighten
         arith,
         is-v i,
         v_low i (omega arith),
-        rounds-least bounds n A (read u) (fewer p) (suc c) i (λ k hk. p.at k i (omega arith) (omega arith)),
+        rounds-least bounds parts n A (read u) (fewer p) (suc c) i (λ k hk. p.at k i (omega arith) (omega arith)),
       )
 
   least-of : (u : Valuation) → R n u → (i : ℕ) → 1 ≤ i → i ≤ suc c → point_at (suc c) z i ≤ u i

@@ -354,9 +354,6 @@ bounds = record {
   low = low;
   low-holds = low-holds;
   low_meets = low_meets;
-  least = least;
-  least-holds = least-holds;
-  holds-least = holds-least;
   negation = negation;
   negation-fails = negation-fails;
   negation-fits = negation-fits;
@@ -387,15 +384,15 @@ abbrev dn_of : Limit → ℕ
 dn_of none = 0
 dn_of (keyed z) = dn (half z)
 
-least-finite : (k x : ℕ) (a : Limit) → T (finite? a) → least k x a ≡ x + k * dn_of a + bit (strict? a) - k * up_of a
+pub least-finite : (k x : ℕ) (a : Limit) → T (finite? a) → least k x a ≡ x + k * dn_of a + bit (strict? a) - k * up_of a
 least-finite k x none t = absurd t
 least-finite k x (keyed z) t = omega (arith, bit-strict z)
 
-least-absent : (k x : ℕ) (a : Limit) → T (not (finite? a)) → least k x a ≡ 0
+pub least-absent : (k x : ℕ) (a : Limit) → T (not (finite? a)) → least k x a ≡ 0
 least-absent k x none t = refl
 least-absent k x (keyed z) t = absurd t
 
-chained : (a b c : Limit) → a ⊑ b ⊕ c → T (finite? b) → T (finite? c) →
+pub chained : (a b c : Limit) → a ⊑ b ⊕ c → T (finite? b) → T (finite? c) →
     Chained (finite? a) (up_of a + dn_of b + dn_of c) (dn_of a + up_of b + up_of c) (strict? a) (strict? b) (strict? c)
 unfolding ◌⊕◌
 chained a none c h f g = absurd f
@@ -416,16 +413,19 @@ not-above : (z : ℤ) → up z ≤ dn z → up z ≡ 0
 not-above (pos n) h = omega arith
 not-above (negsuc n) h = refl
 
-at_most : (a : Limit) → a ⊑ at_most_zero → T (finite? a) × (up_of a ≡ 0)
+pub at_most : (a : Limit) → a ⊑ at_most_zero → T (finite? a) × (up_of a ≡ 0)
 at_most none h = absurd h.at
 at_most (keyed z) h = (tt, not-above (half z) (omega (arith, h.at, halved z)))
 
-at_least : (a : Limit) → at_most_zero ⊑ a → T (finite? a) → 2 * dn_of a + bit (strict? a) ≤ 2 * up_of a
+pub at_least : (a : Limit) → at_most_zero ⊑ a → T (finite? a) → 2 * dn_of a + bit (strict? a) ≤ 2 * up_of a
 at_least none h t = absurd t
 at_least (keyed z) h t = omega (arith, h.at, halved z, bit-strict z)
 
-pub parts : Parts bounds
+abbrev pub parts : Parts bounds
 parts = record {
+  least = least;
+  least-holds = least-holds;
+  holds-least = holds-least;
   finite? = finite?;
   strict? = strict?;
   up = up_of;

@@ -56,10 +56,6 @@ pub record BoundLaws : Type 1 where
   pub low : ℕ → ℕ → B → ℕ
   pub low-holds : (k x z : ℕ) (a : B) → low k x a ≤ z → Holds (2 * k) (2 * x) z a
   pub low_meets : (k x y : ℕ) (a b : B) → Holds k x y (a ⊕ b) → Holds (2 * k) 0 (2 * y) b → Holds (2 * k) (low k x a) (2 * y) b
-  -- at any scale, the least reading of a clock such that a clock that reads x minus it is within a
-  pub least : ℕ → ℕ → B → ℕ
-  pub least-holds : (k x y : ℕ) (a : B) → least k x a ≤ y → Holds k x y a
-  pub holds-least : (k x y : ℕ) (a : B) → Holds k x y a → least k x a ≤ y
   -- the bound that holds, the other way round, where a given one fails
   pub negation : B → B
   pub negation-fails : (k x y : ℕ) (a b : B) → T (not (as_tight? a b)) → Holds k x y b → Holds k y x (negation b) → ⊥

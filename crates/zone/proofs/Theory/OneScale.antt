@@ -22,12 +22,16 @@ pub record Chained (f : Bool) (m n : ℕ) (s t u : Bool) : Type 0 where
 
 -- a bound's parts: whether it says anything, its number as a difference of two naturals, up less dn, and whether it is strict
 pub record Parts (𝓑 : BoundLaws) : Type 0 where
+  -- at any scale, the least reading of a clock such that a clock that reads x minus it is within a
+  pub least : ℕ → ℕ → 𝓑.B → ℕ
+  pub least-holds : (k x y : ℕ) (a : 𝓑.B) → least k x a ≤ y → 𝓑.Holds k x y a
+  pub holds-least : (k x y : ℕ) (a : 𝓑.B) → 𝓑.Holds k x y a → least k x a ≤ y
   pub finite? : 𝓑.B → Bool
   pub strict? : 𝓑.B → Bool
   pub up : 𝓑.B → ℕ
   pub dn : 𝓑.B → ℕ
-  pub least-finite : (k x : ℕ) (a : 𝓑.B) → T (finite? a) → 𝓑.least k x a ≡ x + k * dn a + bit (strict? a) - k * up a
-  pub least-absent : (k x : ℕ) (a : 𝓑.B) → T (not (finite? a)) → 𝓑.least k x a ≡ 0
+  pub least-finite : (k x : ℕ) (a : 𝓑.B) → T (finite? a) → least k x a ≡ x + k * dn a + bit (strict? a) - k * up a
+  pub least-absent : (k x : ℕ) (a : 𝓑.B) → T (not (finite? a)) → least k x a ≡ 0
   -- at least as tight as the sum of two finite ones
   pub chained : (a b c : 𝓑.B) → 𝓑.◌⊑◌ a (𝓑.◌⊕◌ b c) → T (finite? b) → T (finite? c) →
       Chained (finite? a) (up a + dn b + dn c) (dn a + up b + up c) (strict? a) (strict? b) (strict? c)
@@ -36,8 +40,7 @@ pub record Parts (𝓑 : BoundLaws) : Type 0 where
   pub at_least : (a : 𝓑.B) → 𝓑.◌⊑◌ 𝓑.at_most_zero a → T (finite? a) → 2 * dn a + bit (strict? a) ≤ 2 * up a
 
 module _ (𝓑 : BoundLaws) (𝓟 : Parts 𝓑) where
-  open 𝓑 use {least, least-holds}
-  open 𝓟 use {finite?, strict?, up, dn, least-finite, least-absent, chained, at_most, at_least}
+  open 𝓟 use {least, least-holds, finite?, strict?, up, dn, least-finite, least-absent, chained, at_most, at_least}
 
   -- the number of clock i's lower bound
   unfoldable pub lower : Table 𝓑 → ℕ → ℕ

@@ -26,8 +26,9 @@ record Attained (m : ℕ) (f : ℕ → ℕ) (x : ℕ) : Type 0 where
 attained : (m : ℕ) (f : ℕ → ℕ) → 0 < most m f → Attained m f (most m f)
 attained m f = most-cases (λ x. 0 < x → Attained m f x) m f (λ h. absurd (omega arith)) (λ i h _. record { i = i; low = h; is = refl })
 
-module _ (𝓑 : BoundLaws) where
-  open 𝓑 use {◌⊑◌, ◌⊕◌, ⊑_refl, ⊑_trans, ⊕-mono, ⊕-unit', Holds, holds-⊑, sooner, least, least-holds, holds-least}
+module _ (𝓑 : BoundLaws) (𝓟 : Parts 𝓑) where
+  open 𝓑 use {◌⊑◌, ◌⊕◌, ⊑_refl, ⊑_trans, ⊕-mono, ⊕-unit', Holds, holds-⊑, sooner}
+  open 𝓟 use {least, least-holds, holds-least, finite?, strict?, up, dn, least-finite, least-absent, chained}
 
   infix 50 ◌⊑◌
   infixl 70 ◌⊕◌
@@ -74,9 +75,7 @@ module _ (𝓑 : BoundLaws) where
             let y : ℕ = least n 0 (A 0 j) in
             holds-least n 0 y (A i j) (holds-⊑ n n₁ 0 y (tighter i h) (least-holds n 0 y (A 0 j) (N.le_refl y)))
 
-    module _ (𝓟 : Parts 𝓑) (good : Good 𝓑 n A) where
-      open 𝓟 use {finite?, strict?, up, dn, least-finite, least-absent, chained}
-
+    module _ (good : Good 𝓑 n A) where
       -- n times the lower bound
       whole : ℕ → ℕ
       whole j = n * lower 𝓑 𝓟 A j
