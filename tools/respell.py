@@ -10,10 +10,10 @@ usage: python3 tools/respell.py [--names FILE]     at the top of the repository
 
 Names that fall together are printed, and nothing is written then. --names writes each old name and its new one, a pair a line.
 """
-import os, re, sys
+import os, re, subprocess, sys
 
 ROOT = os.getcwd()
-KIT = "/opt/rattle/rattle"
+KIT = os.path.join(os.path.dirname(subprocess.run(["rt", "doc"], capture_output=True, text=True).stdout.strip()), "rattle")
 TOKEN = re.compile(r"(?<![A-Za-z0-9_'?₀₁₂₃₄₅₆₇₈₉])[A-Za-z_][A-Za-z0-9_'?₀₁₂₃₄₅₆₇₈₉]*(?:-[A-Za-z0-9_'?₀₁₂₃₄₅₆₇₈₉]+)*")
 CAMEL = re.compile(r"^[a-z].*[a-z0-9?][A-Z]|^[a-z].*[a-z0-9][A-Z]")
 HEAD = re.compile(r"^(?:abbrev |unfoldable )?(?:pub )?([^\s:(){}]+) :(?: |$)", re.M)
