@@ -12,7 +12,7 @@ build tools/build.sh
 
 echo "== no branch in the methods of a bound and of a zone"
 for methods in 'impl Bound' 'impl Zone'; do # by their source: document 02, card 2
-    body=$(sed -n "/^$methods {/,/^}/p" crates/zone/src/{bounds,zones,stores}.rt | sed 's,//.*,,')
+    body=$(sed -n "/^$methods {/,/^}/p" crates/zone/src/{bounds,zones,reading,parts}.rt | sed 's,//.*,,')
     [[ $body = *fn* ]] || { echo "$methods: not found"; exit 1; }
     ! grep -wnE 'if|match|while|loop' <<<"$body" || { echo "$methods has a branch"; exit 1; }
 done

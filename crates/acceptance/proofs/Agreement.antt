@@ -8,8 +8,8 @@ use native.Mathlib.Omega.{arith}
 use native.Mathlib.Nat.{le_of_suc-le-suc, not-suc-le-zero, add-zero, zero-add}
 use lib.Dec.{T}
 use lib.ListN.{get_or, length, drop}
-use Rattle.zone.specs.Checks.{Check, check}
-use Rattle.zone.proofs.CheckLaws.{AllHold, all_left, all_right, all_join}
+use Rattle.answers.specs.Checks.{Check, check}
+use Rattle.answers.proofs.CheckLaws.{AllHold, all_left, all_right, all_join}
 use Rattle.zone.specs.Scale.{Region}
 use Rattle.model.specs.TableKinds.{blocked, cut, is_table}
 use Rattle.model.specs.Model.{Edge, Action, Location, Model}

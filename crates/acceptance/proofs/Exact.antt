@@ -3,8 +3,8 @@
 use Prim.Native.Nat.{ℕ}
 use mathlib.Core.Path.{◌≡◌, refl, sym, subst, ◌∙◌}
 use mathlib.Core.List.{List, ◌++◌}
-use Rattle.zone.specs.Checks.{Answer, refused, accepted}
-use Rattle.zone.proofs.CheckLaws.{first_one, first-join, first-all, first_holds, first-accepted}
+use Rattle.answers.specs.Checks.{Answer, refused, accepted}
+use Rattle.answers.proofs.CheckLaws.{first_one, first-join, first-all, first_holds, first-accepted}
 use Rattle.model.specs.Model.{Model, model_of}
 use Rattle.model.specs.Reading.{model_checks, counts_of, ReadModel}
 use Rattle.model.proofs.WellFormed.{accepted-formed}

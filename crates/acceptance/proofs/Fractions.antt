@@ -8,8 +8,8 @@ use native.Mathlib.Omega.{arith}
 use lib.Dec.{le→leb}
 use Rattle.zone.specs.Scale.{in?, within}
 use Rattle.zone.specs.Words.{bits, kind, zone_of}
-use Rattle.zone.specs.Checks.{accepted}
-use Rattle.zone.proofs.CheckLaws.{AllHold, all_join, first-all}
+use Rattle.answers.specs.Checks.{accepted}
+use Rattle.answers.proofs.CheckLaws.{AllHold, all_join, first-all}
 use Rattle.model.specs.Kinds.{among, kind_of}
 use Rattle.model.specs.TableKinds.{table_kind_of}
 use Rattle.model.specs.Before.{opener_from, count_of, index_of}

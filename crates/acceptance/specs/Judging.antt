@@ -2,7 +2,7 @@
 -- those of the table's words, 11 to 14, then 15 to 21 with 51 to 53 of cuts among them. Assumes nothing.
 use Rattle.std.specs.Prelude.{ℕ, suc, ◌≡◌, ◌↔◌, cond, List, [], ◌∷◌, ◌++◌, length}
 use Rattle.zone.specs.Scale.{Region, Empty}
-use Rattle.zone.specs.Checks.{Answer, refused, accepted, Check, check, First}
+use Rattle.answers.specs.Checks.{Answer, refused, accepted, Check, check, First}
 use Rattle.model.specs.Model.{Edge, Action, Location, Model, model_of}
 use Rattle.model.specs.States.{location_at}
 use Rattle.model.specs.Reading.{model_checks, counts_of, ReadModel}

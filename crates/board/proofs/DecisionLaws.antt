@@ -1,48 +1,99 @@
 -- What a submission comes to, check by check, at every board whose slots were read. Assumes nothing.
-use Prim.Native.Nat.{ℕ, ◌<◌, ◌^◌}
+use Prim.Native.Nat.{ℕ, ◌<◌}
 use native.Mathlib.Omega.{arith}
 use mathlib.Core.Path.{◌≡◌, refl, sym, ap, subst, ◌∙◌}
 use mathlib.Core.Logic.{inl, inr}
-use mathlib.Core.Bool.{Bool, true, false, not, ◌&&◌}
+use mathlib.Core.Bool.{Bool, true, false, cond, ◌&&◌}
 use mathlib.Core.List.{List}
-use lib.Dec.{T, eqb, eqb→eq, ltb, ltb→lt, lt→ltb, leb}
+use lib.Dec.{T, eqb, ltb, ltb→lt, lt→ltb, leb}
 use lib.ListN.{length, set}
-use lib.Seq.{set_out}
-use Rattle.zone.specs.Checks.{Answer, refused, accepted}
+use Rattle.std.specs.Prelude.{Option, None, Some, Result, Ok, Err}
+use Rattle.answers.specs.Checks.{Answer, refused, accepted, First}
+use Rattle.answers.specs.Refusals.{number, answer_of}
+use Rattle.answers.specs.declared.Reason.{Reason}
+use Rattle.answers.specs.declared.Reason.TheVariants.{BoardOutOfRange, AllowanceSpent, SlotHeldByOther}
+use Rattle.answers.specs.declared.Refusal.{Refusal}
+use Rattle.answers.proofs.CheckLaws.{AllHold, first_holds, same_refusal}
+use Rattle.answers.proofs.RefusalLaws.{not-zero}
+use Rattle.zone.proofs.Bools.{true_false}
 use Rattle.acceptance.specs.declared.certificate.Certificate.{Certificate}
 use Rattle.acceptance.specs.Judging.{Judged, BoundsSchedulers}
-use Rattle.judge.specs.declared.numbers.Numbered.{Numbered}
-use Rattle.judge.proofs.Numbering.{numbered_answer, not-zero, is_zero}
 use Rattle.slots.specs.declared.Slot.{Slot}
-use Rattle.slots.specs.declared.Lent.{Lent}
 use Rattle.slots.specs.Slots.{slot_at}
 use Rattle.slots.specs.Loading.{Loads}
 use Rattle.board.specs.declared.submissions.Ledger.{Ledger}
 use Rattle.board.specs.declared.submissions.Request.{Request}
 use Rattle.board.specs.declared.submissions.Reply.{Reply}
 use Rattle.board.specs.declared.submissions.Decision.{Decision}
+use Rattle.board.specs.declared.submissions.Placed.{Placed}
 use Rattle.board.specs.Board.{all_good?, good_slots?, good_ledger?, spend, board}
 use Rattle.board.specs.Submissions.{Submission, submitted, in_range?, unspent?, may_write?, may_take?, Says, Put, leaves, puts, put_of, written, judged?}
 use Rattle.board.specs.Submissions.{ledger_after}
 use Rattle.board.specs.Replies.{submission, reply_of, Accepting, Submits}
-use Rattle.board.specs.Deciding.{good_lent?, lent_in_range?, Declines, Grants, Writes, Decides}
-use Rattle.board.proofs.Tests.{no, first_of, second-of, some-fails, all_hold}
+use Rattle.board.specs.Deciding.{read_slots, good_lent?, lent_in_range?, lent_checks, Writes, put_for, ComesTo, Decides}
+use Rattle.board.proofs.Tests.{first_of, second-of, some-fails, all_hold}
 
 -- what was read is in range where what was lent is
-pub as_good : (ss : List Slot) (lent : Lent) → Loads ss lent → good_lent? lent ≡ good_slots? ss
-as_good ss lent h =
-    ap (λ (n : ℕ). eqb n 16 && all_good? lent.slots) h.count
-    ∙ gate (eqb (length ss) 16) (all_good? lent.slots) (all_good? ss) (λ t. ap all_good? (h.same (eqb→eq (length ss) 16 t)))
+pub as_good : (ss : List Slot) (lent : Option (List Slot)) → Loads ss lent → good_lent? lent ≡ good_slots? ss
+as_good ss lent h = ap good_lent? h ∙ gate (eqb (length ss) 16)
   where
-    gate : (a x y : Bool) → (T a → x ≡ y) → (a && x) ≡ (a && y)
-    gate true x y f = f tt
-    gate false x y f = refl
+    gate : (b : Bool) → good_lent? (cond b (Some ss) None) ≡ (b && all_good? ss)
+    gate true = refl
+    gate false = refl
 
 -- and then it is the same
-pub as_read : (ss : List Slot) (lent : Lent) → Loads ss lent → T (good_lent? lent) → lent.slots ≡ ss
-as_read ss lent h t = h.same (sym h.count ∙ eqb→eq lent.count 16 (first_of (eqb lent.count 16) (all_good? lent.slots) t))
+pub as_read : (ss : List Slot) (lent : Option (List Slot)) → Loads ss lent → T (good_lent? lent) → read_slots lent ≡ ss
+as_read ss lent h t = by (eqb (length ss) 16) h
+  where
+    by : (b : Bool) → lent ≡ cond b (Some ss) None → read_slots lent ≡ ss
+    by true e = ap read_slots e
+    by false e = absurd (subst (λ (o : Option (List Slot)). T (good_lent? o)) e t)
 
-module _ (lent : Lent) (l : Ledger) (q : Request) (model table : List ℕ) where
+-- a refusal with place 0
+pub refuses : {A : Type 0} (r : Refusal) (reason : Reason) → r.reason ≡ reason → r.place ≡ 0 →
+    ◌≡◌ {A = Answer A} (answer_of (Err r)) (refused (number reason) 0)
+unfolding answer_of
+refuses r reason e p = rw (e, p) refl
+
+-- what is left, or 54 to 56
+abbrev pub Admits : Ledger → Request → Answer Ledger → Option (List Slot) → Type 0
+Admits l q answer lent = First (lent_checks lent l q) (λ left. left ≡ spend l) answer
+
+module _ (l : Ledger) (q : Request) where
+  module _ (r : Refusal) (place : r.place ≡ 0) where
+    pub refuses-read : r.reason ≡ BoardOutOfRange → Admits l q (answer_of (Err r)) None
+    unfolding number
+    refuses-read e = inr ((λ t. t), refuses r BoardOutOfRange e place)
+
+    module _ (slots : List Slot) where
+      pub refuses-range : r.reason ≡ BoardOutOfRange → false ≡ lent_in_range? (Some slots) l q → Admits l q (answer_of (Err r)) (Some slots)
+      unfolding number
+      refuses-range e h = inr ((λ t. subst T (sym h) t), refuses r BoardOutOfRange e place)
+
+      pub refuses-spent : r.reason ≡ AllowanceSpent → true ≡ lent_in_range? (Some slots) l q → l.allowance ≡ 0 →
+          Admits l q (answer_of (Err r)) (Some slots)
+      unfolding number
+      refuses-spent e t z =
+          inl (subst T t tt, inr ((λ u. let m : 0 < l.allowance = ltb→lt 0 l.allowance u in omega (arith, z)), refuses r AllowanceSpent e place))
+
+      pub refuses-held : r.reason ≡ SlotHeldByOther → true ≡ lent_in_range? (Some slots) l q → 0 < l.allowance →
+          false ≡ may_write? q.team (slot_at slots q.slot) → Admits l q (answer_of (Err r)) (Some slots)
+      unfolding number
+      refuses-held e t u w =
+          inl (subst T t tt, inl (lt→ltb 0 l.allowance u, inr ((λ m. subst T (sym w) m), refuses r SlotHeldByOther e place)))
+
+  pub admits-all : (slots : List Slot) → true ≡ lent_in_range? (Some slots) l q → 0 < l.allowance → true ≡ may_write? q.team (slot_at slots q.slot) →
+      Admits l q (answer_of (Ok (spend l))) (Some slots)
+  unfolding answer_of
+  admits-all slots t u w = inl (subst T t tt, inl (lt→ltb 0 l.allowance u, inl (subst T w tt, refl)))
+
+-- the number 0 says that it is an acceptance
+accepting : (a : Result Certificate Refusal) → (reply_of (answer_of a)).number ≡ 0 → Accepting (answer_of a)
+unfolding reply_of answer_of
+accepting (Ok c) e = tt
+accepting (Err r) e = true_false (sym (ap (λ n. eqb n 0) e) ∙ not-zero r.reason)
+
+module _ (lent : Option (List Slot)) (l : Ledger) (q : Request) (model table : List ℕ) where
   abbrev s : Submission
   s = submission q model table
 
@@ -50,115 +101,89 @@ module _ (lent : Lent) (l : Ledger) (q : Request) (model table : List ℕ) where
   abbrev own : Bool
   own = good_ledger? l && (leb q.team 7 && ltb q.slot 16)
 
-  pub slot-there : T (lent_in_range? lent l q) → q.slot < 16
-  slot-there t =
-      ltb→lt q.slot 16 (second-of (leb q.team 7) (ltb q.slot 16)
-      (second-of (good_ledger? l) (leb q.team 7 && ltb q.slot 16) (second-of (good_lent? lent) own t)))
-
   module _ (ss : List Slot) (h : Loads ss lent) where
     ranged : lent_in_range? lent l q ≡ in_range? (board ss l) s
     ranged = ap (λ (good : Bool). good && own) (as_good ss lent h)
 
-    named : T (lent_in_range? lent l q) → may_write? q.team (slot_at lent.slots q.slot) ≡ may_take? (board ss l) s
+    named : T (lent_in_range? lent l q) → may_write? q.team (slot_at (read_slots lent) q.slot) ≡ may_take? (board ss l) s
     named t = ap (λ (x : List Slot). may_write? q.team (slot_at x q.slot)) (as_read ss lent h (first_of (good_lent? lent) own t))
 
+  same-put : (a : Answer Certificate) → put_for q a ≡ put_of (submitted s a)
+  unfolding put_for put_of
+  same-put (refused n p) = refl
+  same-put (accepted c) = refl
+
+  decides : (a : Result Certificate Refusal) (left : Ledger) (r : Decision) → ComesTo q (answer_of a) left r → BoundsSchedulers model (answer_of a) →
+      ((ss : List Slot) → Loads ss lent → Says (board ss l) (submitted s (answer_of a))) →
+      ((ss : List Slot) → Loads ss lent → left ≡ ledger_after (board ss l) (submitted s (answer_of a))) → Decides lent l s r
+  decides a left r c bounds says ledger = record {
+    said = answer_of a;
+    replies = c.reply;
+    accepts = λ e. accepting a (sym (ap (λ (x : Reply). x.number) c.reply) ∙ e);
+    writes = subst (λ (p : Put). Writes p r.write) (same-put (answer_of a)) c.writes;
+    bounds = bounds;
+    says = says;
+    ledger = λ ss h. c.ledger ∙ ledger ss h;
+  }
+
   -- 54 to 56
-  module _ (n : ℕ) (positive : n ≡ 0 → ⊥) (r : Decision) (d : Declines n 0 l r) where
-    stops : ((ss : List Slot) → Loads ss lent → Says (board ss l) (submitted s (refused n 0))) →
-        ((ss : List Slot) → Loads ss lent → T (judged? (board ss l) s) → ⊥) → Decides lent l s r
-    unfolding reply_of put_of ledger_after
-    stops says not-judged = record {
-      said = refused n 0;
-      replies = d.answer;
-      accepts = λ e. absurd (positive (sym (ap (λ (a : Reply). a.number) d.answer) ∙ e));
-      writes = (d.at, d.slot);
-      bounds = tt;
-      says = says;
-      ledger = λ ss h. d.ledger ∙ some-fails (in_range? (board ss l) s) (unspent? (board ss l)) (may_take? (board ss l) s) (spend l) l (not-judged ss h);
-    }
-
-  pub out_of_range : (r : Decision) → not (lent_in_range? lent l q) ≡ true → Declines 54 0 l r → Decides lent l s r
-  out_of_range r e d =
-      stops 54 (λ e. omega (arith, e)) r d (λ ss h. inr (bad ss h, refl))
-      (λ ss h t. bad ss h (first_of (in_range? (board ss l) s) (unspent? (board ss l) && may_take? (board ss l) s) t))
+  pub stops : (P : Ledger → Type 0) (r : Refusal) (d : Decision) → First (lent_checks lent l q) P (answer_of (Err r)) →
+      ComesTo q (answer_of (Err r)) l d → Decides lent l s d
+  unfolding answer_of ledger_after
+  stops P r d f c = decides (Err r) l d c tt (λ ss h. says ss h f)
+      (λ ss h. some-fails (in_range? (board ss l) s) (unspent? (board ss l)) (may_take? (board ss l) s) (spend l) l (not-judged ss h f))
     where
-      bad : (ss : List Slot) → Loads ss lent → T (in_range? (board ss l) s) → ⊥
-      bad ss h t = no (lent_in_range? lent l q) e (subst T (sym (ranged ss h)) t)
+      says : (ss : List Slot) → Loads ss lent → First (lent_checks lent l q) P (refused (number r.reason) r.place) →
+          Says (board ss l) (submitted s (refused (number r.reason) r.place))
+      says ss h (inr x) = inr ((λ t. x.0 (subst T (sym (ranged ss h)) t)), same_refusal _ _ _ _ x.1)
+      says ss h (inl (t, inr x)) = inl (subst T (ranged ss h) t, inr (x.0, same_refusal _ _ _ _ x.1))
+      says ss h (inl (t, inl (u, inr x))) = inl (subst T (ranged ss h) t, inl (u, inr ((λ w. x.0 (subst T (sym (named ss h t)) w)), same_refusal _ _ _ _ x.1)))
+      says ss h (inl (t, inl (u, inl (w, x)))) = absurd x
 
-  module _ (range : T (lent_in_range? lent l q)) where
-    in_range : (ss : List Slot) → Loads ss lent → T (in_range? (board ss l) s)
-    in_range ss h = subst T (ranged ss h) range
+      not-judged : (ss : List Slot) → Loads ss lent → First (lent_checks lent l q) P (refused (number r.reason) r.place) →
+          T (judged? (board ss l) s) → ⊥
+      not-judged ss h (inr x) j = x.0 (subst T (sym (ranged ss h)) (first_of (in_range? (board ss l) s) _ j))
+      not-judged ss h (inl (t, inr x)) j = x.0 (first_of (unspent? (board ss l)) _ (second-of (in_range? (board ss l) s) _ j))
+      not-judged ss h (inl (t, inl (u, inr x))) j =
+          x.0 (subst T (sym (named ss h t)) (second-of (unspent? (board ss l)) _ (second-of (in_range? (board ss l) s) _ j)))
+      not-judged ss h (inl (t, inl (u, inl (w, x)))) j = absurd x
 
-    -- behind 54
-    rest : (ss : List Slot) → T (judged? (board ss l) s) → T (unspent? (board ss l) && may_take? (board ss l) s)
-    rest ss t = second-of (in_range? (board ss l) s) (unspent? (board ss l) && may_take? (board ss l) s) t
+  -- none of them
+  admits : (left : Ledger) → First (lent_checks lent l q) (λ x. x ≡ spend l) (answer_of {A = Ledger} (Ok left)) →
+      AllHold (lent_checks lent l q) × (left ≡ spend l)
+  unfolding answer_of
+  admits left f = first_holds (lent_checks lent l q) (λ x. x ≡ spend l) left f
 
-    pub spent-out : (r : Decision) → l.allowance ≡ 0 → Declines 55 0 l r → Decides lent l s r
-    spent-out r e d = stops 55 (λ e. omega (arith, e)) r d (λ ss h. inl (in_range ss h, inr (none, refl)))
-        (λ ss h t. none (first_of (unspent? (board ss l)) (may_take? (board ss l) s) (rest ss t)))
-      where
-        none : T (ltb 0 l.allowance) → ⊥
-        none t = let m : 0 < l.allowance = ltb→lt 0 l.allowance t in omega (arith, e)
-
-    module _ (left : 0 < l.allowance) where
-      unspent : T (ltb 0 l.allowance)
-      unspent = lt→ltb 0 l.allowance left
-
-      pub held-by-other : (r : Decision) → not (may_write? q.team (slot_at lent.slots q.slot)) ≡ true → Declines 56 0 l r → Decides lent l s r
-      held-by-other r e d =
-          stops 56 (λ e. omega (arith, e)) r d (λ ss h. inl (in_range ss h, inl (unspent, inr (other ss h, refl))))
-          (λ ss h t. other ss h (second-of (unspent? (board ss l)) (may_take? (board ss l) s) (rest ss t)))
-        where
-          other : (ss : List Slot) → Loads ss lent → T (may_take? (board ss l) s) → ⊥
-          other ss h t = no (may_write? q.team (slot_at lent.slots q.slot)) e (subst T (sym (named ss h range)) t)
-
-      -- the judge's answer, in numbers
-      module _ (may : T (may_write? q.team (slot_at lent.slots q.slot))) (v : Numbered) (judged : Judged model table (numbered_answer v))
-          (bounds : BoundsSchedulers model (numbered_answer v)) (r : Decision) where
-        may-take : (ss : List Slot) → Loads ss lent → T (may_take? (board ss l) s)
-        may-take ss h = subst T (named ss h range) may
-
-        reaches : (a : Answer Certificate) → numbered_answer v ≡ a → r.submitted.answer ≡ reply_of a → (r.submitted.answer.number ≡ 0 → Accepting a) →
-            Writes (put_of (submitted s a)) r.at r.slot →
-            r.submitted.ledger ≡ spend l → Decides lent l s r
-        unfolding ledger_after
-        reaches a e replies accepts writes spends = record {
-          said = a;
-          replies = replies;
-          accepts = accepts;
-          writes = writes;
-          bounds = subst (BoundsSchedulers model) e bounds;
-          says = λ ss h. inl (in_range ss h, inl (unspent, inl (may-take ss h, subst (Judged model table) e judged)));
-          ledger = λ ss h. spends
-              ∙ all_hold (in_range? (board ss l) s) (unspent? (board ss l)) (may_take? (board ss l) s) (spend l) l (in_range ss h) unspent (may-take ss h);
-        }
-
-        pub judge_refuses : (v.number ≡ 0 → ⊥) → Declines v.number v.place (spend l) r → Decides lent l s r
-        unfolding reply_of put_of
-        judge_refuses z d = reaches (refused v.number v.place) (not-zero v z) d.answer
-            (λ e. z (sym (ap (λ (a : Reply). a.number) d.answer) ∙ e)) (d.at, d.slot) d.ledger
-
-        pub judge_accepts : v.number ≡ 0 → Grants q v.certificate (spend l) r → Decides lent l s r
-        unfolding reply_of put_of
-        judge_accepts z g = reaches (accepted v.certificate) (is_zero v z) g.answer (λ e. tt) (g.at, g.slot) g.ledger
+  -- the judge's answer
+  pub reaches : (left : Ledger) (a : Result Certificate Refusal) (d : Decision) →
+      First (lent_checks lent l q) (λ x. x ≡ spend l) (answer_of {A = Ledger} (Ok left)) → Judged model table (answer_of a) →
+      BoundsSchedulers model (answer_of a) → ComesTo q (answer_of a) left d → Decides lent l s d
+  unfolding ledger_after
+  reaches left a d f judged bounds c =
+      let g = admits left f in
+      decides a left d c bounds
+      (λ ss h. inl (subst T (ranged ss h) g.0.0, inl (g.0.1.0, inl (subst T (named ss h g.0.0) g.0.1.1.0, judged))))
+      (λ ss h. g.1 ∙ all_hold (in_range? (board ss l) s) (unspent? (board ss l)) (may_take? (board ss l) s) (spend l) l
+      (subst T (ranged ss h) g.0.0) g.0.1.0 (subst T (named ss h g.0.0) g.0.1.1.0))
 
 -- ---- what a decision makes of the board
 
-wrote : (ss : List Slot) → length ss < 2 ^ 64 → (at : ℕ) (slot : Slot) (x : Put) → Writes x at slot → set ss at slot ≡ written ss x
-unfolding written
-wrote ss fits at slot leaves h = set_out ss at slot (omega (arith, h.0))
-wrote ss fits at slot (puts n x) h = ap (λ (k : ℕ). set ss k slot) h.0 ∙ ap (set ss n) h.1
+-- a slot put at its place, or none
+abbrev pub placed : List Slot → Option Placed → List Slot
+placed ss None = ss
+placed ss (Some w) = set ss w.at w.slot
 
-pub submits : (l : Ledger) (s : Submission) (ss after : List Slot) (lent : Lent) (d : Decision) → Loads ss lent → Decides lent l s d → length ss < 2 ^ 64 →
-    after ≡ set ss d.at d.slot → Submits (board ss l) s d.submitted after
-submits l s ss after lent d h k fits e = record {
+wrote : (ss : List Slot) (w : Option Placed) (x : Put) → Writes x w → placed ss w ≡ written ss x
+unfolding written
+wrote ss w leaves h = ap (placed ss) h
+wrote ss w (puts n x) h = ap (placed ss) h
+
+pub submits : (l : Ledger) (s : Submission) (ss after : List Slot) (lent : Option (List Slot)) (d : Decision) → Loads ss lent → Decides lent l s d →
+    after ≡ placed ss d.write → Submits (board ss l) s d.submitted after
+submits l s ss after lent d h k e = record {
   said = k.said;
   replies = k.replies;
   accepts = k.accepts;
-  does = record {
-    says = k.says ss h;
-    slots = e ∙ wrote ss fits d.at d.slot (put_of (submitted s k.said)) k.writes;
-    ledger = k.ledger ss h;
-  };
+  does = record { says = k.says ss h; slots = e ∙ wrote ss d.write (put_of (submitted s k.said)) k.writes; ledger = k.ledger ss h };
   bounds = k.bounds;
 }

@@ -5,7 +5,7 @@ use mathlib.Core.Logic.{◌↔◌}
 use mathlib.Core.Bool.{true, ◌&&◌}
 use mathlib.Core.List.{List}
 use lib.Dec.{T, ltb, lt→ltb, leb, leb→le, le→leb}
-use Rattle.zone.specs.Checks.{accepted}
+use Rattle.answers.specs.Checks.{accepted}
 use Rattle.zone.proofs.Bools.{and}
 use Rattle.acceptance.specs.declared.certificate.Certificate.{Certificate}
 use Rattle.acceptance.specs.Judging.{Judged}

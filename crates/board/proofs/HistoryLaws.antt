@@ -10,9 +10,9 @@ use mathlib.Core.Option.{Option, none, some}
 use lib.Dec.{T, eqb, eqb→eq, eqb_refl, ltb, lt→ltb, leb, leb→le, le→leb}
 use lib.ListN.{length, set, length-set}
 use lib.Seq.{get_or-set_same, get_or-set_other}
-use Rattle.zone.specs.Checks.{Answer, refused, accepted, Check, test, First}
+use Rattle.answers.specs.Checks.{Answer, refused, accepted, Check, test, First}
 use Rattle.zone.proofs.Bools.{by-test, and}
-use Rattle.zone.proofs.CheckLaws.{AllHold}
+use Rattle.answers.proofs.CheckLaws.{AllHold}
 use Rattle.model.specs.Model.{model_of}
 use Rattle.acceptance.specs.declared.certificate.Certificate.{Certificate}
 use Rattle.acceptance.specs.Judging.{Judged}

@@ -6,8 +6,8 @@ use mathlib.Core.Logic.{inl, inr}
 use mathlib.Core.List.{List, [], ◌∷◌}
 use lib.Dec.{T, eqb}
 use lib.ListN.{length, get_or}
-use Rattle.zone.specs.Checks.{Answer, Check, test, First}
-use Rattle.zone.proofs.CheckLaws.{first_one}
+use Rattle.answers.specs.Checks.{Answer, Check, test, First}
+use Rattle.answers.proofs.CheckLaws.{first_one}
 use Rattle.acceptance.specs.declared.certificate.Certificate.{Certificate}
 use Rattle.acceptance.specs.Judging.{Judged}
 use Rattle.acceptance.proofs.Exact.{judged-only}

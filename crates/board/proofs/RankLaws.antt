@@ -5,16 +5,17 @@ use mathlib.Core.Path.{◌≡◌, refl, sym, ap, subst, ◌∙◌}
 use mathlib.Core.Logic.{◌⊎◌, inl, inr, ⊎_elim}
 use mathlib.Core.Bool.{Bool, true, false, not, cond}
 use mathlib.Core.List.{List, [], ◌∷◌, ◌++◌}
+use Rattle.std.specs.Prelude.{None}
 use lib.Dec.{T, eqb, eqb→eq, eqb_refl}
 use lib.ListN.{length, get_or, set, take, replicate, length-set, length-take}
 use lib.Seq.{get_or-set_same, get_or-set_other, get_or-take}
 use Rattle.slots.specs.declared.Slot.{Slot}
 use Rattle.slots.specs.Slots.{vacant, slot_at}
-use Rattle.board.specs.declared.ranking.Pick.{Pick}
+use Rattle.board.specs.declared.submissions.Placed.{Placed}
 use Rattle.board.specs.declared.ranking.Ranking.{Ranking}
 use Rattle.board.specs.Ranking.{ahead?, held?, InRank}
 use Rattle.board.specs.Replies.{ranking_of}
-use Rattle.board.specs.Ordering.{before?, FirstHeld, Orders}
+use Rattle.board.specs.Ordering.{before?, IsFirst, FirstHeld, Orders}
 use Rattle.board.proofs.Tests.{dec, never}
 use Rattle.board.proofs.OrderLaws.{held-there}
 use Rattle.board.proofs.PickLaws.{below}
@@ -96,13 +97,12 @@ zeros-behind (x ∷ xs) (suc c) n e z = ap (λ (ys : List ℕ). x ∷ ys) (zeros
 
 -- ---- the rank so far
 
--- of the slots ss, those of `left` are left, as they were; `order` has the others, `count` of them, and `found` is the first that is left
-pub record Sofar (ss left : List Slot) (order : List ℕ) (count : ℕ) (found : Pick) : Type 0 where
+-- of the slots ss, those of `left` are left, as they were; `order` has the others, `count` of them
+pub record Sofar (ss left : List Slot) (order : List ℕ) (count : ℕ) : Type 0 where
   pub size : length order ≡ 16
   pub fits : count + tally left 16 ≤ 16
   pub sixteen : length left ≡ 16
   pub same : (n : ℕ) → T (held? left n) → slot_at left n ≡ slot_at ss n
-  pub first : FirstHeld left 16 found
   pub sorted : (i j : ℕ) → i < j → j < count → T (ahead? ss (get_or order i 0) (get_or order j 0))
   pub held : (i : ℕ) → i < count → T (held? ss (get_or order i 0))
   pub behind : (n : ℕ) → T (held? left n) → (i : ℕ) → i < count → T (ahead? ss (get_or order i 0) n)
@@ -110,14 +110,12 @@ pub record Sofar (ss left : List Slot) (order : List ℕ) (count : ℕ) (found :
   pub zeros : (i : ℕ) → count ≤ i → get_or order i 0 ≡ 0
 
 module _ (ss : List Slot) where
-  pub begun : (order : List ℕ) (found : Pick) → length ss ≡ 16 → length order ≡ 16 → ((i : ℕ) → get_or order i 0 ≡ 0) → FirstHeld ss 16 found →
-      Sofar ss ss order 0 found
-  begun order found sixteen size zeros f = record {
+  pub begun : (order : List ℕ) → length ss ≡ 16 → length order ≡ 16 → ((i : ℕ) → get_or order i 0 ≡ 0) → Sofar ss ss order 0
+  begun order sixteen size zeros = record {
     size = size;
     fits = omega (arith, tally-most ss 16);
     sixteen = sixteen;
     same = λ n h. refl;
-    first = f;
     sorted = λ i j l m. absurd (omega arith);
     held = λ i l. absurd (omega arith);
     behind = λ n h i l. absurd (omega arith);
@@ -126,10 +124,13 @@ module _ (ss : List Slot) where
   }
 
   -- one more is listed
-  module _ (left : List Slot) (order : List ℕ) (count : ℕ) (found : Pick) (less : count < 16) (yes : T found.some)
-      (s : Sofar ss left order count found) where
+  module _ (left : List Slot) (order : List ℕ) (count : ℕ) (next : Placed) (f : IsFirst left 16 next) (s : Sofar ss left order count) where
     abbrev at : ℕ
-    at = found.at
+    at = next.at
+
+    -- there is room for it
+    pub less : count < 16
+    less = let some : 0 < tally left 16 = tally-some left at 16 f.there f.held in omega (arith, s.fits)
 
     abbrev left' : List Slot
     left' = set left at vacant
@@ -138,10 +139,10 @@ module _ (ss : List Slot) where
     order' = set order count at
 
     at_held : T (held? left at)
-    at_held = s.first.some yes
+    at_held = f.held
 
     gone : T (held? left' at) → ⊥
-    gone t = subst (λ (x : Slot). T x.held) (get_or-set_same left at vacant vacant (subst (λ (k : ℕ). at < k) (sym s.sixteen) s.first.there)) t
+    gone t = subst (λ (x : Slot). T x.held) (get_or-set_same left at vacant vacant (subst (λ (k : ℕ). at < k) (sym s.sixteen) f.there)) t
 
     -- what is left now was left before
     apart : (n : ℕ) → T (held? left' n) → n ≡ at → ⊥
@@ -168,15 +169,14 @@ module _ (ss : List Slot) where
     ahead n h =
         ⊎_elim (λ e. absurd (apart n h e)) (λ a. subst (λ (x : Slot). T (before? x at (slot_at ss n) n)) (s.same at at_held)
         (subst (λ (y : Slot). T (before? (slot_at left at) at y n)) (s.same n (was n h)) a))
-        (s.first.first yes n (subst (λ (k : ℕ). n < k) s.sixteen (held-there left n (was n h))) (was n h))
+        (f.first n (subst (λ (k : ℕ). n < k) s.sixteen (held-there left n (was n h))) (was n h))
 
-    pub one-listed : (next : Pick) → FirstHeld left' 16 next → Sofar ss left' order' (count + 1) next
-    one-listed next f = record {
+    pub one-listed : Sofar ss left' order' (count + 1)
+    one-listed = record {
       size = length-set order count at ∙ s.size;
-      fits = let l : tally left' 16 < tally left 16 = tally-less left left' at 16 s.first.there at_held gone was in omega (arith, s.fits);
+      fits = let l : tally left' 16 < tally left 16 = tally-less left left' at 16 f.there at_held gone was in omega (arith, s.fits);
       sixteen = length-set left at vacant ∙ s.sixteen;
       same = λ n h. kept n (apart n h) ∙ s.same n (was n h);
-      first = f;
       sorted = λ i j l m. below j count m
           (λ e. subst (λ (k : ℕ). T (ahead? ss (get_or order' i 0) k)) (sym (ap (λ (k : ℕ). get_or order' k 0) e ∙ here))
           (subst (λ (k : ℕ). T (ahead? ss k at)) (sym (before i (omega arith))) (s.behind at at_held i (omega arith))))
@@ -197,13 +197,10 @@ module _ (ss : List Slot) where
             (λ q. inr (subst (λ (x : Slot). T x.held) (sym (kept n (λ e. never (eqb n at) (subst (λ (k : ℕ). T (eqb n k)) e (eqb_refl n)) q))) t))
             (dec (eqb n at))
 
-  -- none is left, or 16 are listed, and then none is left either
-  module _ (left : List Slot) (order : List ℕ) (count : ℕ) (found : Pick) (s : Sofar ss left order count found)
-      (over : T (not found.some) ⊎ (16 ≤ count)) where
+  -- none is left
+  module _ (left : List Slot) (order : List ℕ) (count : ℕ) (s : Sofar ss left order count) (over : FirstHeld left 16 None) where
     none : (n : ℕ) → T (held? left n) → ⊥
-    none n h =
-        let l : n < 16 = subst (λ (k : ℕ). n < k) s.sixteen (held-there left n h) in
-        ⊎_elim (λ t. s.first.none t n l h) (λ m. let some : 0 < tally left 16 = tally-some left n 16 l h in omega (arith, s.fits)) over
+    none n h = over n (subst (λ (k : ℕ). n < k) s.sixteen (held-there left n h)) h
 
     long : length (take count order) ≡ count
     long = let z : count ≤ length order = omega (arith, s.size, s.fits) in simp length-take (omega arith)

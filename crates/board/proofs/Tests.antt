@@ -1,9 +1,9 @@
 -- Laws of tests, beside those of `zone`. Assumes nothing.
-use mathlib.Core.Path.{◌≡◌, refl, sym, ap, ◌∙◌}
+use mathlib.Core.Path.{◌≡◌, refl}
 use mathlib.Core.Logic.{◌⊎◌, inl, inr}
 use mathlib.Core.Bool.{Bool, true, false, not, cond, ◌&&◌, ◌||◌}
 use lib.Dec.{T}
-use Rattle.zone.proofs.Bools.{true_false, false_true, both}
+use Rattle.zone.proofs.Bools.{both}
 
 pub dec : (b : Bool) → T b ⊎ T (not b)
 dec true = inl tt
@@ -12,18 +12,6 @@ dec false = inr tt
 pub never : (b : Bool) → T b → T (not b) → ⊥
 never true t f = f
 never false t f = t
-
--- what a branch shows
-pub no : (a : Bool) → not a ≡ true → T a → ⊥
-no true e t = false_true e
-no false e t = t
-
-pub yes : (a : Bool) → not a ≡ false → T a
-yes true e = tt
-yes false e = true_false e
-
-pub shown : {a b t : Bool} → a ≡ b → not a ≡ t → not b ≡ t
-shown e h = ap not (sym e) ∙ h
 
 -- of two tests
 pub first_of : (a b : Bool) → T (a && b) → T a

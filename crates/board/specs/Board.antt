@@ -1,6 +1,6 @@
 -- Document 02, card 3: the board, 16 slots and what stands beside them, and when it is in range. Assumes nothing.
 use Rattle.std.specs.Prelude.{ℕ, ◌-◌, Bool, true, not, ◌&&◌, ◌||◌, List, [], ◌∷◌, T, eqb, ltb, leb, length}
-use Rattle.zone.specs.Checks.{accepted}
+use Rattle.answers.specs.Checks.{accepted}
 use Rattle.acceptance.specs.Judging.{Judged}
 use Rattle.slots.specs.declared.Slot.{Slot}
 use Rattle.board.specs.declared.submissions.Ledger.{Ledger}

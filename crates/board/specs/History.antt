@@ -1,7 +1,7 @@
 -- Document 02, card 3: for every list of submissions from a fresh board, a slot shows its last accepted one, or is vacant without one. Assumes nothing.
 use Rattle.std.specs.Prelude.{ℕ, ◌<◌, ◌≡◌, false, cond, List, [], ◌∷◌, T, eqb, length}
 use Rattle.std.proofs.Math.Option.{Option, none, some}
-use Rattle.zone.specs.Checks.{refused, accepted}
+use Rattle.answers.specs.Checks.{refused, accepted}
 use Rattle.model.specs.Model.{model_of}
 use Rattle.acceptance.specs.declared.certificate.Certificate.{Certificate}
 use Rattle.acceptance.specs.Schedulers.{BoundsEvery}

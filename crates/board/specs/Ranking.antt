@@ -1,6 +1,6 @@
 -- Document 02, card 3: the held slots in rank, smaller fraction first, lower slot number on equality. Assumes nothing.
 use Rattle.std.specs.Prelude.{ℕ, ◌<◌, ◌*◌, ◌≡◌, Bool, ◌&&◌, ◌||◌, List, [], ◌∷◌, T, eqb, ltb, length, get_or}
-use Rattle.zone.specs.Checks.{Answer, test, First}
+use Rattle.answers.specs.Checks.{Answer, test, First}
 use Rattle.slots.specs.declared.Slot.{Slot}
 use Rattle.slots.specs.Slots.{slot_at}
 use Rattle.board.specs.Board.{good_slots?}

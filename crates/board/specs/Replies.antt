@@ -1,7 +1,7 @@
 -- Document 02, card 3: how the answers of the board's two calls stand in structs, without an enum, so that they are the answers for C too. The number 0
 -- stands for an acceptance; a refusal is its number and its place with nothing else, so zeros follow. Assumes nothing.
 use Rattle.std.specs.Prelude.{ℕ, ◌-◌, ◌≡◌, List, ◌++◌, length, replicate}
-use Rattle.zone.specs.Checks.{Answer, refused, accepted}
+use Rattle.answers.specs.Checks.{Answer, refused, accepted}
 use Rattle.acceptance.specs.declared.certificate.Certificate.{Certificate}
 use Rattle.acceptance.specs.Judging.{BoundsSchedulers}
 use Rattle.slots.specs.declared.Slot.{Slot}

@@ -1,6 +1,6 @@
 -- Document 02, card 3: a submission, its refusals 54 to 56 before the judge, what it writes and what it spends. Assumes nothing.
 use Rattle.std.specs.Prelude.{ℕ, ◌≡◌, ◌⊎◌, Bool, not, cond, ◌&&◌, ◌||◌, List, [], ◌∷◌, eqb, ltb, leb, set}
-use Rattle.zone.specs.Checks.{Answer, refused, accepted, Check, test}
+use Rattle.answers.specs.Checks.{Answer, refused, accepted, Check, test}
 use Rattle.acceptance.specs.declared.certificate.Certificate.{Certificate}
 use Rattle.acceptance.specs.Judging.{Judged}
 use Rattle.slots.specs.declared.Slot.{Slot}

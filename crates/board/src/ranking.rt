@@ -1,14 +1,19 @@
 // The held slots in rank.
 ghost use Rattle.std.specs.Prelude.{◌*◌, ◌<◌, ◌≡◌, T};
-ghost use Rattle.board.specs.Deciding.{good_lent?};
+ghost use Rattle.answers.specs.Checks.{refused};
+ghost use Rattle.board.specs.Board.{all_good?};
+ghost use Rattle.board.specs.Replies.{ranking_of};
 ghost use Rattle.board.specs.Ordering.{before?, better_of, FirstHeld, Orders, RanksLent};
 
 use crate::submissions;
-use slots::{Lent, Slot};
+use crate::submissions::Placed;
+use answers::Reason;
+use slots::Slot;
 
-// The ranking: 0 and the numbers of the held slots in rank, as many as `count` says, or a refusal's number and place; zeros behind them.
+/// The ranking: 0 and the numbers of the held slots in rank, as many as `count` says, or a refusal's number and place; zeros behind them.
+// kept: C gets this struct, and has no enum with values and no slice with a length
 #[repr(C)]
-#[derive(Clone, Copy)]
+#[derive(Clone, Copy, Debug, PartialEq, Eq)]
 pub struct Ranking {
     pub number: u32,
     pub place: usize,
@@ -16,106 +21,92 @@ pub struct Ranking {
     pub order: [usize; 16],
 }
 
-// A slot with its number, or none.
-#[derive(Clone, Copy)]
-pub struct Pick {
-    pub some: bool,
-    pub at: usize,
-    pub slot: Slot,
-}
-
 pub(crate) fn product(a: u32, b: u32) -> u64
     ensures { result ≡ a * b }
 {
-    (a as u64) * (b as u64)
+    u64::from(a) * u64::from(b)
 }
 
-// Slot m comes before slot n: its fraction is smaller, or the same and its number lower.
+/// Slot m comes before slot n: its fraction is smaller, or the same and its number lower.
 pub(crate) fn before(x: Slot, m: usize, y: Slot, n: usize) -> bool
     ensures { result ≡ before? x m y n }
 {
     let p = product(x.b, y.whole);
     let q = product(y.b, x.whole);
-    (p < q) | ((p == q) & (m < n))
+    p < q || p == q && m < n
 }
 
-// The better of the best so far and slot m, which counts where it is held.
-pub(crate) fn better(s: Slot, m: usize, best: Pick) -> Pick
+/// The better of the best so far, where there is one, and slot m, which counts where it is held.
+#[tactic(auto, unfolding(crate::specs::Ordering::better_of))]
+pub(crate) fn better(s: Slot, m: usize, best: Option<Placed>) -> Option<Placed>
     ensures { result ≡ better_of s m best }
 {
-    let b = best.slot;
-    let ahead = !best.some | before(s, m, b, best.at);
-    if s.held & ahead {
-        return Pick {
-            some: true,
-            at: m,
-            slot: s,
-        };
+    let ahead = match best {
+        Some(b) => before(s, m, b.slot, b.at),
+        None => true,
+    };
+    if s.held && ahead {
+        return Some(Placed { at: m, slot: s });
     }
     best
 }
 
-// The first of the held slots.
-pub(crate) fn first(lent: Lent) -> Pick
-    requires { T (good_lent? lent) }
-    ensures { FirstHeld lent.slots 16 result }
+/// The first of the held slots.
+pub(crate) fn first(slots: &[Slot; 16]) -> Option<Placed>
+    requires { T (all_good? slots.now) }
+    ensures { FirstHeld slots.now 16 result }
 {
-    let slot = lent.slots[0];
-    let mut best = Pick {
-        some: false,
-        at: 0,
-        slot: slot,
-    };
-    let mut m = 0;
-    while m < 16 {
-        let s = lent.slots[m];
-        best = better(s, m, best);
-        m += 1;
+    let mut best = None;
+    for (m, slot) in slots.iter().enumerate() {
+        best = better(*slot, m, best);
     }
     best
 }
 
-// The held slots in rank, where the slots are in range: the first one, then each time the first of those that are left.
-pub(crate) fn ordered(lent: Lent) -> Ranking
-    requires { T (good_lent? lent) }
-    ensures { Orders lent.slots result }
+/// The held slots in rank, where the slots are in range: the first one, then each time the first of those that are left.
+pub(crate) fn ordered(slots: [Slot; 16]) -> Ranking
+    requires { T (all_good? slots) }
+    ensures { Orders slots result }
 {
-    let vacant = Slot {
-        held: false,
-        team: 0,
-        b: 0,
-        whole: 0,
-    };
-    let mut order = [0usize; 16];
+    let mut left = slots;
+    let mut order = [0; 16];
     let mut count = 0;
-    let mut left = lent;
-    let mut found = first(left);
-    while found.some & (count < 16) {
-        let at = found.at;
-        order[count] = at;
+    while let Some(next) = first(&left) {
+        order[count] = next.at;
         count += 1;
-        left.slots[at] = vacant;
-        found = first(left);
+        left[next.at] = Slot::VACANT;
     }
     Ranking {
         number: 0,
         place: 0,
-        count: count,
-        order: order,
+        count,
+        order,
     }
 }
 
-// The held slots in rank, or 54.
-pub fn ranked(lent: Lent) -> Ranking
+/// The answer 54.
+#[tactic(auto, unfolding(answers::specs::Refusals::number, crate::specs::Replies::ranking_of))]
+pub(crate) fn out_of_range() -> Ranking
+    ensures { result ≡ ranking_of (refused 54 0) }
+{
+    Ranking {
+        number: Reason::BoardOutOfRange.number(),
+        place: 0,
+        count: 0,
+        order: [0; 16],
+    }
+}
+
+/// The held slots in rank, or 54.
+#[tactic(auto, using(crate::proofs::RankingLaws::not_read, crate::proofs::RankingLaws::not_good, crate::proofs::RankingLaws::all_ranked))]
+pub fn ranked(lent: Option<[Slot; 16]>) -> Ranking
     ensures { RanksLent lent result }
 {
-    if !submissions::good_lent(lent) {
-        return Ranking {
-            number: 54,
-            place: 0,
-            count: 0,
-            order: [0usize; 16],
-        };
+    let Some(slots) = lent else {
+        return out_of_range();
+    };
+    if !submissions::all_good(&slots) {
+        return out_of_range();
     }
-    ordered(lent)
+    ordered(slots)
 }

@@ -1,32 +1,38 @@
 // A submission: its refusals before the judge, the judge's answer, what is spent, and the slot that is to be written.
 ghost use Rattle.std.specs.Prelude.{◌<◌, ◌≡◌};
-ghost use Rattle.board.specs.Board.{good_slot?, good_ledger?, spend};
+ghost use Rattle.answers.specs.Checks.{First};
+ghost use Rattle.answers.specs.Refusals.{answer_of};
+ghost use Rattle.board.specs.Board.{good_slot?, all_good?, good_ledger?, spend};
 ghost use Rattle.board.specs.Submissions.{may_write?};
-ghost use Rattle.board.specs.Replies.{submission};
-ghost use Rattle.board.specs.Deciding.{good_lent?, lent_in_range?, Declines, Grants, Decides};
+ghost use Rattle.board.specs.Replies.{submission, reply_of};
+ghost use Rattle.board.specs.Deciding.{lent_in_range?, lent_checks, Writes, put_for, ComesTo, Decides};
 
 use acceptance::certificate::Certificate;
-use judge::{numbers, verdict};
-use slots::{Lent, Slot};
+use answers::{Reason, Refusal};
+use judge::verdict;
+use slots::Slot;
 
-// What a submission names beside its two files.
+/// What a submission names beside its two files.
+// kept: C passes this struct
 #[repr(C)]
-#[derive(Clone, Copy)]
+#[derive(Clone, Copy, Debug, PartialEq, Eq)]
 pub struct Request {
     pub team: u32,
     pub slot: u32,
 }
 
-// What stands beside the slots, handed over and back: how many submissions are left for everybody.
+/// What stands beside the slots, handed over and back: how many submissions are left for everybody.
+// kept: C passes this struct and gets it back
 #[repr(C)]
-#[derive(Clone, Copy)]
+#[derive(Clone, Copy, Debug, PartialEq, Eq)]
 pub struct Ledger {
     pub allowance: u32,
 }
 
-// The answer: a refusal's number and place, or 0 and what an acceptance gives.
+/// The answer: a refusal's number and place, or 0 and what an acceptance gives.
+// kept: C gets this struct, and has no enum with values
 #[repr(C)]
-#[derive(Clone, Copy)]
+#[derive(Clone, Copy, Debug, PartialEq, Eq)]
 pub struct Reply {
     pub number: u32,
     pub place: usize,
@@ -35,129 +41,152 @@ pub struct Reply {
     pub nodes: usize,
 }
 
-// The answer, and what then stands beside the slots.
+/// The answer, and what then stands beside the slots.
 #[repr(C)]
-#[derive(Clone, Copy)]
+#[derive(Clone, Copy, Debug, PartialEq, Eq)]
 pub struct Submitted {
     pub answer: Reply,
     pub ledger: Ledger,
 }
 
-// What a submission comes to, with the slot to write and its place, which is no slot's where nothing is to be written.
-#[derive(Clone, Copy)]
-pub struct Decision {
-    pub submitted: Submitted,
+/// A slot and its place, from 0.
+#[derive(Clone, Copy, Debug, PartialEq, Eq)]
+pub struct Placed {
     pub at: usize,
     pub slot: Slot,
 }
 
-const NOWHERE: usize = 0xFFFF_FFFF_FFFF_FFFF; // a place that no slice has
+/// What a submission comes to, with the slot that it writes, if any.
+#[derive(Clone, Copy, Debug, PartialEq, Eq)]
+pub struct Decision {
+    pub submitted: Submitted,
+    pub write: Option<Placed>,
+}
 
-// A vacant slot, or one with a team and a fraction that a table could give.
+/// A vacant slot, or one with a team and a fraction that a table could give.
 pub(crate) fn good_slot(s: Slot) -> bool
     ensures { result ≡ good_slot? s }
 {
-    !s.held | ((s.team <= 7) & ((1 <= s.whole) & ((s.whole <= 268_435_455) & (s.b <= s.whole))))
+    !s.held || s.team <= 7 && 1 <= s.whole && s.whole <= 268_435_455 && s.b <= s.whole
 }
 
-// 16 slots were read, and the held ones are in range.
-pub(crate) fn good_lent(lent: Lent) -> bool
-    ensures { result ≡ good_lent? lent }
+/// The held slots are in range.
+#[tactic(auto, using(crate::proofs::SlotLaws::all_pass))]
+pub(crate) fn all_good(slots: &[Slot; 16]) -> bool
+    ensures { result ≡ all_good? slots.now }
 {
-    let mut good = lent.count == 16;
-    let mut i = 0;
-    while i < 16 {
-        let s = lent.slots[i];
-        good = good & good_slot(s);
-        i += 1;
-    }
-    good
+    slots.iter().all(|slot| good_slot(*slot))
 }
 
-// What stands beside the slots is in range.
+/// What stands beside the slots is in range.
 pub(crate) fn good_ledger(l: Ledger) -> bool
     ensures { result ≡ good_ledger? l }
 {
     l.allowance <= 100
 }
 
-// The test of 54.
-pub(crate) fn in_range(lent: Lent, ledger: Ledger, request: Request) -> bool
-    ensures { result ≡ lent_in_range? lent ledger request }
-{
-    good_lent(lent) & (good_ledger(ledger) & ((request.team <= 7) & (request.slot < 16)))
-}
-
-// The slot is vacant or the team's own.
+/// The slot is vacant or the team's own.
 pub(crate) fn may_write(team: u32, s: Slot) -> bool
     ensures { result ≡ may_write? team s }
 {
-    !s.held | (s.team == team)
+    !s.held || s.team == team
 }
 
-// One less is left.
-pub(crate) fn spent(l: Ledger) -> Ledger
-    requires { 0 < l.allowance }
-    ensures { result ≡ spend l }
+/// The slots that were read, what stands beside them and what a submission names are in range.
+pub(crate) fn in_range(slots: &[Slot; 16], ledger: Ledger, request: Request) -> bool
+    ensures { result ≡ lent_in_range? (Some slots.now) ledger request }
 {
-    Ledger {
-        allowance: l.allowance - 1,
-    }
+    all_good(slots) && good_ledger(ledger) && request.team <= 7 && request.slot < 16
 }
 
-// A refusal, which writes nothing.
-pub(crate) fn declined(number: u32, place: usize, ledger: Ledger) -> Decision
-    ensures { Declines number place ledger result }
-{
-    Decision {
-        submitted: Submitted {
-            answer: Reply {
-                number: number,
-                place: place,
-                b: 0,
-                whole: 0,
-                nodes: 0,
-            },
-            ledger: ledger,
-        },
-        at: NOWHERE,
-        slot: Slot {
-            held: false,
-            team: 0,
-            b: 0,
-            whole: 0,
-        },
-    }
-}
+impl From<Result<Certificate, Refusal>> for Reply {
+    ghost from_gives = { λ answer reply. reply ≡ reply_of (answer_of answer) };
 
-// An acceptance, which writes the slot.
-pub(crate) fn granted(request: Request, certificate: Certificate, ledger: Ledger) -> Decision
-    ensures { Grants request certificate ledger result }
-{
-    Decision {
-        submitted: Submitted {
-            answer: Reply {
+    #[tactic(auto, unfolding(crate::specs::Replies::reply_of, answers::specs::Refusals::answer_of))]
+    fn from(answer: Result<Certificate, Refusal>) -> Reply {
+        match answer {
+            Ok(certificate) => Reply {
                 number: 0,
                 place: 0,
                 b: certificate.b,
                 whole: certificate.whole,
                 nodes: certificate.nodes,
             },
-            ledger: ledger,
-        },
-        at: request.slot as usize,
-        slot: Slot {
-            held: true,
-            team: request.team,
-            b: certificate.b,
-            whole: certificate.whole,
-        },
+            Err(refusal) => Reply {
+                number: refusal.reason.number(),
+                place: refusal.place,
+                b: 0,
+                whole: 0,
+                nodes: 0,
+            },
+        }
     }
 }
 
-// What a submission comes to: 54, 55, 56, or the judge's answer, which spends one.
+/// What is left where a submission gets as far as the judge, or 54, 55 or 56.
+pub(crate) fn admitted(
+    lent: &Option<[Slot; 16]>,
+    ledger: Ledger,
+    request: Request,
+) -> Result<Ledger, Refusal>
+    ensures { First (lent_checks lent.now ledger request) (λ left. left ≡ spend ledger) (answer_of result) }
+{
+    let Some(slots) = lent else {
+        return Err(Reason::BoardOutOfRange.at(0));
+    };
+    if !in_range(slots, ledger, request) {
+        return Err(Reason::BoardOutOfRange.at(0));
+    }
+    if ledger.allowance == 0 {
+        return Err(Reason::AllowanceSpent.at(0));
+    }
+    if !may_write(request.team, slots[request.slot as usize]) {
+        return Err(Reason::SlotHeldByOther.at(0));
+    }
+    Ok(Ledger {
+        allowance: ledger.allowance - 1,
+    })
+}
+
+/// The slot that an answer writes: an acceptance writes the named one, and a refusal none.
+#[tactic(auto, unfolding(crate::specs::Deciding::put_for, crate::specs::Submissions::put_of, answers::specs::Refusals::answer_of))]
+pub(crate) fn slot_for(request: Request, answer: Result<Certificate, Refusal>) -> Option<Placed>
+    ensures { Writes (put_for request (answer_of answer)) result }
+{
+    match answer {
+        Ok(certificate) => Some(Placed {
+            at: request.slot as usize,
+            slot: Slot {
+                held: true,
+                team: request.team,
+                b: certificate.b,
+                whole: certificate.whole,
+            },
+        }),
+        Err(_) => None,
+    }
+}
+
+/// What an answer comes to, with what is then left.
+pub(crate) fn outcome(
+    request: Request,
+    answer: Result<Certificate, Refusal>,
+    ledger: Ledger,
+) -> Decision
+    ensures { ComesTo request (answer_of answer) ledger result }
+{
+    Decision {
+        submitted: Submitted {
+            answer: Reply::from(answer),
+            ledger,
+        },
+        write: slot_for(request, answer),
+    }
+}
+
+/// What a submission comes to: 54, 55, 56, or the judge's answer, which spends one.
 pub fn decide(
-    lent: Lent,
+    lent: Option<[Slot; 16]>,
     ledger: Ledger,
     request: Request,
     model: &[u32],
@@ -165,22 +194,8 @@ pub fn decide(
 ) -> Decision
     ensures { Decides lent ledger (submission request model.now table.now) result }
 {
-    if !in_range(lent, ledger, request) {
-        return declined(54, 0, ledger);
+    match admitted(&lent, ledger, request) {
+        Ok(left) => outcome(request, verdict::judge(model, table), left),
+        Err(refusal) => outcome(request, Err(refusal), ledger),
     }
-    if ledger.allowance == 0 {
-        return declined(55, 0, ledger);
-    }
-    let at = request.slot as usize;
-    let named = lent.slots[at];
-    if !may_write(request.team, named) {
-        return declined(56, 0, ledger);
-    }
-    let left = spent(ledger);
-    let judged = numbers::in_numbers(verdict::judge(model, table));
-    if judged.number != 0 {
-        return declined(judged.number, judged.place, left);
-    }
-    let certificate = judged.certificate;
-    granted(request, certificate, left)
 }

@@ -6,7 +6,7 @@ use mathlib.Core.Bool.{Bool, true, false, cond}
 use mathlib.Core.List.{List, [], ◌∷◌}
 use lib.Dec.{leb}
 use lib.ListN.{length, replicate, length-replicate}
-use Rattle.zone.specs.Checks.{refused, accepted, test, First}
+use Rattle.answers.specs.Checks.{refused, accepted, test, First}
 use Rattle.model.specs.Model.{Model, model_of}
 use Rattle.model.specs.Reading.{ReadModel}
 use Rattle.model.specs.declared.read.Counts.{Counts}

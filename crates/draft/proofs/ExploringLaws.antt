@@ -7,10 +7,11 @@ use mathlib.Core.List.{List, [], ◌∷◌, ◌++◌, map, append-nil}
 use native.Mathlib.Omega.{arith}
 use lib.ListN.{get_or, length, drop}
 use Rattle.zone.specs.Scale.{Zone}
-use Rattle.zone.specs.Checks.{Answer}
+use Rattle.answers.specs.Checks.{Answer}
+use Rattle.std.specs.Prelude.{Ok}
 use Rattle.zone.specs.Squares.{universe, reset_square, empty?, with_bound}
 use Rattle.zone.specs.Stores.{zone_at}
-use Rattle.zone.specs.Reading.{cell_of, with_word, read_from, read_zone}
+use Rattle.zone.specs.Reading.{cell_of, with_word, read_from, read_zone, zone_read}
 use Rattle.zone.specs.declared.zones.Zone.{Zone as Square}
 use Rattle.model.specs.Fields.{mask_of, lands_at}
 use Rattle.model.specs.Model.{Edge, Action, Location, Model, edge_of}
@@ -34,29 +35,30 @@ use Rattle.drafting.proofs.ValuedRows.{no_edge, no_row}
 use Rattle.drafting.proofs.KnownRows.{fit-good}
 use Rattle.draft.specs.Fronts.{zone_from}
 use Rattle.draft.specs.Nodes.{Placing}
-use Rattle.draft.specs.Exploration.{graph, go_on_by, outside?, landed_square, with_placed, with_successor, successors_from, with_row, rows_from, with_node}
-use Rattle.draft.specs.declared.nodes.Stop.TheVariants as stop
+use Rattle.draft.specs.Exploration.{graph, go_on, outside?, landed_square, with_placed, with_successor, successors_from, with_row, rows_from, with_node}
+use Rattle.std.specs.Prelude.{Result, Ok}
+use Rattle.answers.specs.declared.Reason.{Reason}
 use Rattle.draft.proofs.NodeLaws.{map_at}
 use Rattle.draft.proofs.Coding.{share_codes, rows_codes}
 use Rattle.draft.proofs.LimitLaws.{SquareFor}
 use Rattle.draft.proofs.SmallestLaws.{zone-bounds, zone_smallest}
 use Rattle.draft.proofs.LandedLaws.{landed-square, landed-tells}
-use Rattle.draft.proofs.PlacingLaws.{front-location, Places, placed, full_nodes, far_bounds, placed-right}
-use Rattle.draft.proofs.GraphLaws.{Builds, built, ended_nodes, ended_bounds, builds_as, builds-result, builds-then, EdgeBuilt, EdgesBuilt, RowBuilt, RowsBuilt}
+use Rattle.draft.proofs.PlacingLaws.{front-location, Places, placed, not_placed, placed-right}
+use Rattle.draft.proofs.GraphLaws.{Builds, built, not_built, builds_as, builds-result, builds-then, EdgeBuilt, EdgesBuilt, RowBuilt, RowsBuilt}
 use Rattle.draft.proofs.GraphLaws.{edge-cons, row_cons}
 
 -- ---- the bounds of a node, read back from its words
 
-read_back : (C : ℕ) → C ≤ 4 → (Z : Zone) → AllFit C Z → (p : ℕ) (z : Square) → (read_from C (map bound_word Z) p z).zone ≡ with_bounds Z z
+read_back : (C : ℕ) → C ≤ 4 → (Z : Zone) → AllFit C Z → (p : ℕ) (z : Square) → read_from C (map bound_word Z) p z ≡ Ok (with_bounds Z z)
 unfolding read_from with_bounds with_word
 read_back C few [] h p z = refl
 read_back C few (b ∷ Z) h p z =
     rw (bound-good C few b h.0, bound-back C few b h.0) (read_back C few Z h.1 (suc p) (with_bound b.i b.j (cell_of b) z))
 
 front-zone : (C : ℕ) → C ≤ 4 → (F : Found) → AllFit C F.zone → {n : ℕ} → n ≡ C →
-    (read_zone n (drop 1 (front_words F))).zone ≡ with_bounds F.zone universe
-unfolding front_words read_zone
-front-zone C few F h e = rw e (read_back C few F.zone h 0 universe)
+    zone_read n (drop 1 (front_words F)) ≡ with_bounds F.zone universe
+unfolding front_words read_zone zone_read
+front-zone C few F h e = rw (e, read_back C few F.zone h 0 universe)
 
 module _ {M : Model} {m : Kept} (x : Indexed M m) (good : GoodModel M) (formed : WellFormed M) where
   few-locations : length M.locations ≤ 16
@@ -76,12 +78,11 @@ module _ {M : Model} {m : Kept} (x : Indexed M m) (good : GoodModel M) (formed :
 
     module _ (filled : empty? reach ≡ false) where
       -- the node of an edge, and its code
-      placed-builds : (e : Edge) → FormedEdge M e → (S : Zone) (found : List Found) (cs : List ℕ) (p : Placing) →
+      placed-builds : (e : Edge) → FormedEdge M e → (S : Zone) (found : List Found) (cs : List ℕ) (p : Result Placing Reason) →
           ((s : Answer (Progress ℕ)) → node_for M.clocks e.to S found s → successor_for M F A e found s) →
           Places (node_for M.clocks e.to S found) p →
           Builds (successor_for M F A e found) (λ s. EdgeBuilt M F cs A e s.result)
-          (with_placed (outside? (reset_square e.mask reach) (zone_at m.zones e.to)) p (graph stop.None (map front_words found) cs))
-      unfolding with_placed go_on_by
+          (go_on p (with_placed (outside? (reset_square e.mask reach) (zone_at m.zones e.to)) (graph (map front_words found) cs)))
       placed-builds e f S found cs _ g (placed Fs n h) =
           built (record { found = Fs; result = n }) _ (g _ h) (record {
             share = record { weight = e.weight; node = n; outside = outside? (reset_square e.mask reach) (zone_at m.zones e.to) };
@@ -92,12 +93,11 @@ module _ {M : Model} {m : Kept} (x : Indexed M m) (good : GoodModel M) (formed :
             };
             codes = refl;
           })
-      placed-builds e f S found cs _ g (full_nodes n fs h) = ended_nodes fs cs (g _ h)
-      placed-builds e f S found cs _ g (far_bounds n fs h) = ended_bounds fs cs (g _ h)
+      placed-builds e f S found cs _ g (not_placed r h) = not_built r (g _ h)
 
       successor-right : (u : ℕ) → FormedEdge M (edge_of u) → (found : List Found) → Ready M found → (cs : List ℕ) →
           Builds (successor_for M F A (edge_of u) found) (λ s. EdgeBuilt M F cs A (edge_of u) s.result)
-          (with_successor m reach u (graph stop.None (map front_words found) cs))
+          (with_successor m reach u (graph (map front_words found) cs))
       unfolding with_successor
       successor-right u f found ready cs =
           let C : ℕ = M.clocks in
@@ -111,7 +111,7 @@ module _ {M : Model} {m : Kept} (x : Indexed M m) (good : GoodModel M) (formed :
       successors-right : (k : ℕ) (es : List Edge) → Each (EdgeAt m) k es → All (FormedEdge M) es → (found : List Found) → Ready M found →
           (cs : List ℕ) →
           Builds (successors_for M F A es found) (λ s. EdgesBuilt M F cs A es s.result)
-          (successors_from m reach (length es) k (graph stop.None (map front_words found) cs))
+          (successors_from m reach (length es) k (graph (map front_words found) cs))
       unfolding successors_from Each share_codes
       successors-right k [] h empty found ready cs =
           built (record { found = found; result = [] }) cs refl (record { shares = []; are = no_edge; codes = sym (append-nil cs) })
@@ -123,16 +123,16 @@ module _ {M : Model} {m : Kept} (x : Indexed M m) (good : GoodModel M) (formed :
           (λ t ds p' q'. edge-cons q q'))
         where
           first : Builds (successor_for M F A e found) (λ s. EdgeBuilt M F cs A e s.result)
-              (with_successor m reach (get_or m.edges k 0) (graph stop.None (map front_words found) cs))
+              (with_successor m reach (get_or m.edges k 0) (graph (map front_words found) cs))
           first =
               subst
               (λ (e : Edge). FormedEdge M e →
               Builds (successor_for M F A e found) (λ s. EdgeBuilt M F cs A e s.result)
-              (with_successor m reach (get_or m.edges k 0) (graph stop.None (map front_words found) cs)))
+              (with_successor m reach (get_or m.edges k 0) (graph (map front_words found) cs)))
               h.0.reads (λ f. successor-right (get_or m.edges k 0) f found ready cs) f
 
     row-right : (found : List Found) → Ready M found → (cs : List ℕ) →
-        Builds (row_for M F A found) (λ s. RowBuilt M F cs A s.result) (with_row m (waited F) a (graph stop.None (map front_words found) cs))
+        Builds (row_for M F A found) (λ s. RowBuilt M F cs A s.result) (with_row m (waited F) a (graph (map front_words found) cs))
     unfolding with_row
     row-right found ready cs = rw (edges-at i.at) (by (empty? reach) refl)
       where
@@ -141,8 +141,8 @@ module _ {M : Model} {m : Kept} (x : Indexed M m) (good : GoodModel M) (formed :
 
         by : (c : Bool) → empty? reach ≡ c →
             Builds (row_for M F A found) (λ s. RowBuilt M F cs A s.result)
-            (cond c (graph stop.None (map front_words found) (cs ++ (255 ∷ [])))
-            (successors_from m reach (length A.edges) (get_or m.index.edges a 0) (graph stop.None (map front_words found) cs)))
+            (cond c (Ok (graph (map front_words found) (cs ++ (255 ∷ []))))
+            (successors_from m reach (length A.edges) (get_or m.index.edges a 0) (graph (map front_words found) cs)))
         by true e = built (record { found = found; result = blocked }) _ (inl (tells.blocked-pass e, refl)) refl
         by false e =
             builds_as (λ s h. inr (tells.blocked-fail e, h))
@@ -153,7 +153,7 @@ module _ {M : Model} {m : Kept} (x : Indexed M m) (good : GoodModel M) (formed :
   rows_right : (F : Found) → Writable M F → (a : ℕ) (As : List Action) → Each (ActionIs M m) a As → (found : List Found) → Ready M found →
       (cs : List ℕ) →
       Builds (rows_for M F As found) (λ s. RowsBuilt M F cs As s.result)
-      (rows_from m (waited F) (length As) a (graph stop.None (map front_words found) cs))
+      (rows_from m (waited F) (length As) a (graph (map front_words found) cs))
   unfolding rows_from Each rows_codes
   rows_right F w a [] h found ready cs =
       built (record { found = found; result = [] }) cs refl (record { shares = []; are = no_row; codes = sym (append-nil cs) })
@@ -168,7 +168,7 @@ module _ {M : Model} {m : Kept} (x : Indexed M m) (good : GoodModel M) (formed :
   pub node-right : (found : List Found) → Ready M found → (n : ℕ) → n < length found → (cs : List ℕ) →
       Builds (rows_for M (get_or found n no_found) (row_actions (location_at M (get_or found n no_found).location)) found)
       (λ s. RowsBuilt M (get_or found n no_found) cs (row_actions (location_at M (get_or found n no_found).location)) s.result)
-      (with_node m n (graph stop.None (map front_words found) cs))
+      (with_node m n (graph (map front_words found) cs))
   unfolding with_node row_actions rows_from Each
   node-right found ready n h cs =
       rw (
@@ -191,7 +191,7 @@ module _ {M : Model} {m : Kept} (x : Indexed M m) (good : GoodModel M) (formed :
 
       by : (c : Bool) →
           Builds (rows_for M F (cond c [] L.actions) found) (λ s. RowsBuilt M F cs (cond c [] L.actions) s.result)
-          (cond c (graph stop.None (map front_words found) cs)
-          (rows_from m (waited F) (length L.actions) (get_or m.index.actions F.location 0) (graph stop.None (map front_words found) cs)))
+          (cond c (Ok (graph (map front_words found) cs))
+          (rows_from m (waited F) (length L.actions) (get_or m.index.actions F.location 0) (graph (map front_words found) cs)))
       by true = rows_right F w 0 [] tt found ready cs
       by false = rows_right F w _ L.actions (actions-at M m x good formed F.location w.location) found ready cs

@@ -4,7 +4,11 @@ use mathlib.Core.Path.{◌≡◌, refl, ap}
 use mathlib.Core.List.{List, ◌++◌}
 use borrow.Author.Tests.{le-leb, lt-leb}
 use lib.ListN.{length, drop}
-use Rattle.zone.specs.Checks.{refused, accepted}
+use Rattle.std.specs.Prelude.{Ok, Err}
+use Rattle.answers.specs.Checks.{accepted}
+use Rattle.answers.specs.Refusals.{number, answer_of}
+use Rattle.answers.specs.declared.Reason.TheVariants as reason
+use Rattle.answers.specs.declared.Refusal.{Refusal}
 use Rattle.drafting.specs.Drafting.{length_of, lent_after}
 use Rattle.draft.specs.Writing.{draft_text, LengthOf, last_answer}
 
@@ -17,16 +21,16 @@ module _ {nodes codes ends : List ℕ} {count n : ℕ} (size : LengthOf nodes co
 
   module _ (lent : List ℕ) where
     -- the lent words stay
-    pub too_few : length lent < n →
-        (refused 60 0 ≡ length_of (last_answer (length lent) text)) × (lent ≡ lent_after (last_answer (length lent) text) lent)
-    unfolding last_answer length_of lent_after
-    too_few h = let test = lt-leb (length text) (length lent) (rw (size.is vs) at h) in (rw test refl, rw test refl)
+    pub too_few : length lent < n → (r : Refusal) → r.reason ≡ reason.TooFewWords → r.place ≡ 0 →
+        (answer_of (Err r) ≡ length_of (last_answer (length lent) text)) × (lent ≡ lent_after (last_answer (length lent) text) lent)
+    unfolding last_answer length_of lent_after answer_of number
+    too_few h r e f = let test = lt-leb (length text) (length lent) (rw (size.is vs) at h) in (rw (e, f, test) refl, rw test refl)
 
     -- the draft is put, with the values ws that were stored
     pub enough : n ≤ length lent → {ws after : List ℕ} → ws ≡ vs →
         after ≡ draft_text nodes ws codes ends count ++ drop (length (draft_text nodes ws codes ends count)) lent →
-        (accepted n ≡ length_of (last_answer (length lent) text)) × (after ≡ lent_after (last_answer (length lent) text) lent)
-    unfolding last_answer length_of lent_after
+        (answer_of (Ok n) ≡ length_of (last_answer (length lent) text)) × (after ≡ lent_after (last_answer (length lent) text) lent)
+    unfolding last_answer length_of lent_after answer_of
     enough h e put =
         let test = le-leb (length text) (length lent) (text-fits h) in
         (rw test (ap accepted (size.is vs)), rw test (rw e at put))

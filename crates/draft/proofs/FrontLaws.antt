@@ -24,17 +24,14 @@ use Rattle.zone.proofs.Machine.{back32}
 use Rattle.drafting.specs.Bounding.{others, pairs_from, pairs, empty_zone}
 use Rattle.drafting.specs.Exploring.{narrow?}
 use Rattle.drafting.specs.Words.{bound_word, front_words}
-use Rattle.draft.specs.Fronts.{bound_at, narrow_bound?, collected, Clocks, FrontOf}
+use Rattle.std.specs.Prelude.{Some, None}
+use Rattle.draft.specs.declared.front.Front.{Front}
+use Rattle.draft.specs.Fronts.{bound_at, narrow_bound?, collected, Clocks, front_for, FrontOf}
 
 -- ---- an empty zone
-pub empty-front : (l : ℕ) (rest : List ℕ) →
-    FrontOf (record { narrow = true; size = 2; list = (2 ^ 31 + l * 2 ^ 24) ∷ 0x51000FFF ∷ rest }) l empty_zone
-unfolding narrow? front_words bound_of
-empty-front l rest = record {
-  narrow = refl;
-  words = λ e. refl;
-  fits = record { room = omega arith; some = λ e. omega arith };
-}
+pub empty-front : (f : Front) (l : ℕ) (rest : List ℕ) → f.size ≡ 2 → f.list ≡ (2 ^ 31 + l * 2 ^ 24) ∷ 0x51000FFF ∷ rest → FrontOf (Some f) l empty_zone
+unfolding front_for narrow? front_words bound_of
+empty-front f l rest e q = record { is = rw (e, q) refl }
 
 -- ---- the cells in their order
 -- the cell at an index is that of two of the clocks 0 to C
@@ -123,16 +120,12 @@ started l C y h ws e = record {
 
 module _ {l C : ℕ} {y : Square} {p size : ℕ} {list : List ℕ} (t : TakenAt l C y p size list) where
   -- past the last cell
-  pub ended : 25 ≤ p → FrontOf (record { narrow = true; size = size; list = list }) l (collected y (pairs C))
-  unfolding said_from narrow?
-  ended k =
+  pub ended : 25 ≤ p → (f : Front) → f.size ≡ size → f.list ≡ list → FrontOf (Some f) l (collected y (pairs C))
+  unfolding front_for said_from narrow?
+  ended k f es el =
       let e : p ≡ 25 = omega arith in
       let u = rw e at t.taken in
-      record {
-        narrow = sym u.narrow;
-        words = λ _. sym (u.words ∙ append-nil (take size list));
-        fits = record { room = omega arith; some = λ _. u.some };
-      }
+      record { is = rw (es, el) (sym (rw (u.narrow, u.words, append-nil (take size list)))) }
 
   module _ (h : p < 25) (fits : mag (cell_at y p).key < 2 ^ 31) where
     abbrev rest : Zone
@@ -175,10 +168,6 @@ module _ {l C : ℕ} {y : Square} {p size : ℕ} {list : List ℕ} (t : TakenAt 
       unfolding narrow_bound?
       put w q n = rw q (record { within = omega arith; taken = one_more says h n })
 
-      pub too_wide : narrow_bound? (cell_at y p) ≡ false → FrontOf (record { narrow = false; size = 0; list = list }) l (collected y (pairs C))
-      unfolding narrow_bound?
-      too_wide n = record {
-        narrow = sym (not_narrow says n);
-        words = λ e. false_true e;
-        fits = record { room = omega arith; some = λ e. false_true e };
-      }
+      pub too_wide : narrow_bound? (cell_at y p) ≡ false → FrontOf None l (collected y (pairs C))
+      unfolding front_for narrow_bound?
+      too_wide n = record { is = sym (rw (not_narrow says n)) }

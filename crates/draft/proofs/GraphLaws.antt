@@ -5,7 +5,7 @@ use mathlib.Core.Path.{◌≡◌, refl, sym, ap, ◌∙◌}
 use mathlib.Core.Logic.{inl, inr}
 use mathlib.Core.List.{List, [], ◌∷◌, ◌++◌, map, append_assoc, append-nil}
 use lib.ListN.{length, drop, length-append, drop_of_length-le}
-use Rattle.zone.specs.Checks.{Answer, refused, accepted}
+use Rattle.answers.specs.Checks.{Answer, refused, accepted}
 use Rattle.model.specs.Model.{Edge, Action, Model}
 use Rattle.model.specs.States.{location_at}
 use Rattle.table.specs.Table.{row_actions}
@@ -13,43 +13,40 @@ use Rattle.drafting.specs.Exploring.{Found, FoundRow, blocked, to_nodes, Progres
 use Rattle.drafting.specs.Words.{front_words}
 use Rattle.drafting.proofs.Shares.{Share, Valued}
 use Rattle.drafting.proofs.ValuedRows.{ShareIs, SharesOf, next_edge, ShareRows, pass_blocked, next_row, ValuedAll, no_node, next_node}
-use Rattle.draft.specs.Exploration.{Graph, graph, go_on_by, go_on, code_of}
-use Rattle.draft.specs.declared.nodes.Stop.TheVariants as stop
+use Rattle.std.specs.Prelude.{Result, Ok, Err}
+use Rattle.answers.specs.Refusals.{number}
+use Rattle.answers.specs.declared.Reason.{Reason}
+use Rattle.draft.specs.Exploration.{Graph, graph, go_on, code_of}
 use Rattle.draft.proofs.Coding.{share_codes, rows_codes, all_codes, ends_from}
 
 -- ---- steps
 
 -- a graph has what the definition P accepts, its codes being as Q says; or P refuses
-pub data Builds {A : Type 0} (P : Answer (Progress A) → Type 0) (Q : Progress A → List ℕ → Type 0) : Graph → Type 0 where
-  built : (s : Progress A) (cs : List ℕ) → P (accepted s) → Q s cs → Builds P Q (graph stop.None (map front_words s.found) cs)
-  ended_nodes : (fs : List (List ℕ)) (cs : List ℕ) → P (refused 58 0) → Builds P Q (graph stop.Nodes fs cs)
-  ended_bounds : (fs : List (List ℕ)) (cs : List ℕ) → P (refused 59 0) → Builds P Q (graph stop.Bounds fs cs)
+pub data Builds {A : Type 0} (P : Answer (Progress A) → Type 0) (Q : Progress A → List ℕ → Type 0) : Result Graph Reason → Type 0 where
+  built : (s : Progress A) (cs : List ℕ) → P (accepted s) → Q s cs → Builds P Q (Ok (graph (map front_words s.found) cs))
+  not_built : (r : Reason) → P (refused (number r) 0) → Builds P Q (Err r)
 
 -- of another definition
-pub builds_as : {A : Type 0} {P P' : Answer (Progress A) → Type 0} {Q : Progress A → List ℕ → Type 0} {d : Graph} →
+pub builds_as : {A : Type 0} {P P' : Answer (Progress A) → Type 0} {Q : Progress A → List ℕ → Type 0} {d : Result Graph Reason} →
     ((a : Answer (Progress A)) → P a → P' a) → Builds P Q d → Builds P' Q d
 builds_as f (built s cs p q) = built s cs (f (accepted s) p) q
-builds_as f (ended_nodes fs cs p) = ended_nodes fs cs (f (refused 58 0) p)
-builds_as f (ended_bounds fs cs p) = ended_bounds fs cs (f (refused 59 0) p)
+builds_as f (not_built r p) = not_built r (f (refused (number r) 0) p)
 
 -- with another result
 pub builds-result : {A B : Type 0} (P : Answer (Progress A) → Type 0) (g : A → B) {Q : Progress A → List ℕ → Type 0}
-    {Q' : Progress B → List ℕ → Type 0} {d : Graph} → Builds P Q d →
+    {Q' : Progress B → List ℕ → Type 0} {d : Result Graph Reason} → Builds P Q d →
     ((s : Progress A) (cs : List ℕ) → P (accepted s) → Q s cs → Q' (record { found = s.found; result = g s.result }) cs) →
     Builds (on_from P (λ s. done (g s.result) s.found)) Q' d
 builds-result P g (built s cs p q) f = built (record { found = s.found; result = g s.result }) cs (inl (s, p, refl)) (f s cs p q)
-builds-result P g (ended_nodes fs cs p) f = ended_nodes fs cs (inr (58, 0, p, refl))
-builds-result P g (ended_bounds fs cs p) f = ended_bounds fs cs (inr (59, 0, p, refl))
+builds-result P g (not_built r p) f = not_built r (inr (number r, 0, p, refl))
 
 -- with a step more
 pub builds-then : {A B : Type 0} (P : Answer (Progress A) → Type 0) (next : Progress A → Answer (Progress B) → Type 0)
-    {Q : Progress A → List ℕ → Type 0} {Q' : Progress B → List ℕ → Type 0} (f : Graph → Graph) {d : Graph} → Builds P Q d →
-    ((s : Progress A) (cs : List ℕ) → P (accepted s) → Q s cs → Builds (next s) Q' (f (graph stop.None (map front_words s.found) cs))) →
+    {Q : Progress A → List ℕ → Type 0} {Q' : Progress B → List ℕ → Type 0} (f : Graph → Result Graph Reason) {d : Result Graph Reason} → Builds P Q d →
+    ((s : Progress A) (cs : List ℕ) → P (accepted s) → Q s cs → Builds (next s) Q' (f (graph (map front_words s.found) cs))) →
     Builds (on_from P next) Q' (go_on d f)
-unfolding go_on_by
 builds-then P next f (built s cs p q) g = builds_as (λ a h. inl (s, p, h)) (g s cs p q)
-builds-then P next f (ended_nodes fs cs p) g = ended_nodes fs cs (inr (58, 0, p, refl))
-builds-then P next f (ended_bounds fs cs p) g = ended_bounds fs cs (inr (59, 0, p, refl))
+builds-then P next f (not_built r p) g = not_built r (inr (number r, 0, p, refl))
 
 -- ---- codes cs, behind the codes `before`
 module _ (M : Model) (F : Found) (before : List ℕ) where

@@ -1,6 +1,6 @@
 -- The laws of `draft`, none of which uses a later one: the words of a node's location and bounds, nodes in a store, square tables against the zones of
--- card 5, exploring and its code, the words of a draft and its values and their code, what the functions ask of a model, the last answer, the call, an
--- answer in numbers; proofs of functions stand in folders of their own.
+-- card 5, exploring and its code, the words of a draft and its values and their code, what the functions ask of a model, the last answer, the call;
+-- proofs of functions stand in folders of their own.
 pub mod KeyWordLaws
 pub mod FrontLaws
 pub mod NodeLaws
@@ -24,4 +24,3 @@ pub mod ModelLaws
 pub mod FinishLaws
 pub mod CallLaws
 pub mod DraftCall
-pub mod Numbering

@@ -1,24 +1,29 @@
 -- Laws of the nodes in a store: the words of a node, the nodes after one more is put behind them, and the search for a known node. Assumes nothing.
 use Prim.Native.Nat.{ℕ, zero, suc, ◌+◌, ◌*◌, ◌-◌, ◌≤◌, ◌<◌, zero-le}
 use mathlib.Core.Path.{◌≡◌, refl, sym, ap, ap₂, ◌∙◌}
-use mathlib.Core.Bool.{Bool, true, false, cond, ◌&&◌}
+use mathlib.Core.Bool.{Bool, true, false, cond}
 use mathlib.Core.List.{List, [], ◌∷◌, ◌++◌, map}
 use mathlib.Core.Logic.{◌⊎◌, inl, inr}
 use native.Mathlib.Nat.{add-zero, add-suc, suc-add, zero-add, not-suc-le-zero, le_of_suc-le-suc}
 use native.Mathlib.Numerals.{add-one}
 use native.Mathlib.Omega.{arith}
-use borrow.Author.Tests.{eq-eqb, ne_eqb, lt-ltb, le-ltb}
-use lib.Dec.{eqb, ltb}
-use lib.ListN.{length, get_or, take, drop, set, length-drop, length-set, drop_of_length-le}
+use borrow.Author.Tests.{lt-ltb, le-ltb}
+use lib.Dec.{ltb}
+use lib.ListN.{length, get_or, take, drop, set, get_or-append, length-append, length-take, length-drop, length-set, drop_of_length-le}
+use Rattle.std.proofs.lemmas.List.{get_or-append_right}
+use borrow.Rule.Slice.PartMut.{put_mid}
 use lib.Seq.{get_or-take, get_or-drop, get_or-set_same, get_or-set_other, length-take-le, drop-cons, drop-drop, take-nil, ext_get_or}
 use Rattle.zone.specs.Squares.{list_of}
 use Rattle.zone.proofs.Bools.{by-test}
 use Rattle.zone.proofs.Loops.{list_of-length, list_of-at, list_of-same}
 use Rattle.zone.proofs.Integers.{lt-or-ge}
-use Rattle.draft.specs.Nodes.{front_at, fronts_of, HasNode, Holds, StillHolds, same_words?, known_from, Placing, added_to, placed_in, known_or}
-use Rattle.draft.specs.declared.nodes.Known.{Known}
-use Rattle.draft.specs.declared.nodes.Known.TheVariants as known
-use Rattle.draft.specs.declared.nodes.Stop.TheVariants as stop
+use Rattle.draft.specs.Nodes.{front_at, fronts_of, HasNode, Holds, StillHolds, known_in, Placing, new_node, added_to, placed_in, known_or}
+use Rattle.std.specs.Prelude.{Option, Some, None, Result, Ok, Err, IfOk, bytes_eq}
+use Rattle.std.specs.List.{position_from}
+use Rattle.std.proofs.lemmas.Option.{none-some, same_Some}
+use Rattle.std.proofs.lemmas.Slice.Eq.{bytes_eq-Decides}
+use Rattle.answers.specs.declared.Reason.{Reason}
+use Rattle.answers.specs.declared.Reason.TheVariants as reason
 
 -- ---- lists
 pub map_at : {A B : Type 0} (f : A → B) (d : A) (e : B) (xs : List A) (i : ℕ) → i < length xs → get_or (map f xs) i e ≡ f (get_or xs i d)
@@ -45,6 +50,28 @@ word_at nodes n p h = get_or-take _ _ _ _ h ∙ get_or-drop (n * 27 + 1) nodes p
 
 pub first_word : (nodes : List ℕ) (n : ℕ) → HasNode nodes n → get_or (front_at nodes n) 0 0 ≡ get_or nodes (n * 27 + 1) 0
 first_word nodes n h = word_at nodes n 0 (omega arith) ∙ ap (λ (k : ℕ). get_or nodes k 0) (add-zero (n * 27 + 1))
+
+-- the part of the store that has them
+pub front-part : (nodes : List ℕ) (n : ℕ) →
+    take (n * 27 + 1 + get_or nodes (n * 27) 0 - (n * 27 + 1)) (drop (n * 27 + 1) nodes) ≡ front_at nodes n
+unfolding front_at
+front-part nodes n =
+    let e : n * 27 + 1 + get_or nodes (n * 27) 0 - (n * 27 + 1) ≡ get_or nodes (n * 27) 0 = omega arith in
+    rw e
+
+-- word by word
+module _ (nodes : List ℕ) (n : ℕ) (ws : List ℕ) (h : HasNode nodes n) where
+  pub words-same : get_or nodes (n * 27) 0 ≡ length ws → ((k : ℕ) → k < length ws → get_or nodes (n * 27 + 1 + k) 0 ≡ get_or ws k 0) →
+      front_at nodes n ≡ ws
+  words-same e same =
+      let s = front_length nodes n h in
+      ext_get_or 0 (front_at nodes n) ws (s ∙ e) (λ k m. word_at nodes n k (omega arith) ∙ same k (omega arith))
+
+  pub word-same : front_at nodes n ≡ ws → (k : ℕ) → k < length ws → get_or nodes (n * 27 + 1 + k) 0 ≡ get_or ws k 0
+  word-same e k m =
+      let s = front_length nodes n h in
+      let l = ap length e in
+      sym (word_at nodes n k (omega arith)) ∙ ap (λ (vs : List ℕ). get_or vs k 0) e
 
 -- those of its bounds
 part : (size at : ℕ) (nodes : List ℕ) → 1 ≤ size → take (at + 1 + size - (at + 2)) (drop (at + 2) nodes) ≡ drop 1 (take size (drop (at + 1) nodes))
@@ -79,35 +106,31 @@ list_of-more f (suc n) p = rw (add-suc p n, ← suc-add p n) (ap (λ (r : List _
 pub fronts-more : (nodes : List ℕ) (count : ℕ) → fronts_of nodes (count + 1) ≡ fronts_of nodes count ++ (front_at nodes count ∷ [])
 fronts-more nodes count = rw (add-one count) (list_of-more (front_at nodes) count 0 ∙ rw (zero-add count))
 
--- ---- words put from an index on: the first p stand there, and those before the index are as they were
-pub record Putting (old : List ℕ) (at : ℕ) (ws : List ℕ) (p : ℕ) (nodes : List ℕ) : Type 0 where
+-- ---- words put from an index on: they stand there, and those before the index are as they were
+pub record Putting (old : List ℕ) (at : ℕ) (ws nodes : List ℕ) : Type 0 where
   pub same : length nodes ≡ length old
   pub before : (k : ℕ) → k < at → get_or nodes k 0 ≡ get_or old k 0
-  pub words : (k : ℕ) → k < p → get_or nodes (at + k) 0 ≡ get_or ws k 0
+  pub words : (k : ℕ) → k < length ws → get_or nodes (at + k) 0 ≡ get_or ws k 0
 
-module _ (old : List ℕ) (at : ℕ) (ws : List ℕ) where
-  pub put-none : Putting old at ws 0 old
-  put-none = record { same = refl; before = λ k l. refl; words = λ k l. absurd (omega arith) }
+-- a part that is overwritten
+pub put_part : (old : List ℕ) (at n : ℕ) (ws ys : List ℕ) → ys ≡ ws → n ≡ length ws → at + length ws ≤ length old → Putting old at ws (put_mid at n old ys)
+put_part old at n ws ys e q h = rw e (record {
+  same = simp (length-append, length-take, length-drop) (omega arith);
+  before = λ k l. let size = front in get_or-append (take at old) (ws ++ drop n (drop at old)) 0 k (omega arith) ∙ get_or-take at old k 0 l;
+  words = λ k l. get_or-append_right (take at old) (ws ++ drop n (drop at old)) at (at + k) 0 front (omega arith)
+      ∙ rw (offset k) (get_or-append ws (drop n (drop at old)) 0 k l);
+})
+  where
+    front : length (take at old) ≡ at
+    front = length-take-le at old (omega arith)
 
-  pub put_word : (p : ℕ) (nodes : List ℕ) (v : ℕ) → Putting old at ws p nodes → at + p < length old → v ≡ get_or ws p 0 →
-      Putting old at ws (p + 1) (set nodes (at + p) v)
-  put_word p nodes v t h e = record {
-    same = length-set nodes (at + p) v ∙ t.same;
-    before = λ k l. get_or-set_other nodes (at + p) k v 0 (λ q. omega arith) ∙ t.before k l;
-    words = λ k l. by k (lt-or-ge k p) l;
-  }
-    where
-      by : (k : ℕ) → (k < p) ⊎ (p ≤ k) → k < p + 1 → get_or (set nodes (at + p) v) (at + k) 0 ≡ get_or ws k 0
-      by k (inl l) g = get_or-set_other nodes (at + p) (at + k) v 0 (λ q. omega arith) ∙ t.words k l
-      by k (inr l) g =
-          let q : k ≡ p = omega arith in
-          let s = t.same in
-          rw q (get_or-set_same nodes (at + p) v 0 (omega arith) ∙ e)
+    offset : (k : ℕ) → at + k - at ≡ k
+    offset k = omega arith
 
 -- ---- a node put behind so many: first the number of its words, then these
 module _
-    (old : List ℕ) (count size : ℕ) {ws : List ℕ} {p : ℕ} {nodes : List ℕ}
-    (t : Putting (set old (count * 27) size) (count * 27 + 1) ws p nodes)
+    (old : List ℕ) (count size : ℕ) {ws nodes : List ℕ}
+    (t : Putting (set old (count * 27) size) (count * 27 + 1) ws nodes)
   where
     pub put-length : length nodes ≡ length old
     put-length = t.same ∙ length-set old (count * 27) size
@@ -146,7 +169,7 @@ module _
           by n (inl m) g = kept-node n m (h.nodes n m)
           by n (inr m) g = let e : n ≡ count = omega arith in rw e new-node
 
-      module _ (type_size : length ws ≡ 26) (all : 26 ≤ p) where
+      module _ (type_size : length ws ≡ 26) where
         new-front : front_at nodes count ≡ take size ws
         new-front =
             let q = head in
@@ -161,138 +184,73 @@ module _
             (list_of-same (front_at nodes) (front_at old) count 0 (λ n l. kept-front n (omega arith) (h.nodes n (omega arith))))
             new-front
 
--- ---- whether two lists of words are the same
-module _ (xs ys : List ℕ) (p : ℕ) where
-  step : p < length xs → p < length ys →
-      same_words? (drop p xs) (drop p ys) ≡ eqb (get_or xs p 0) (get_or ys p 0) && same_words? (drop (p + 1) xs) (drop (p + 1) ys)
-  unfolding same_words?
-  step h g = rw (add-one p, drop-cons xs p 0 h, drop-cons ys p 0 g)
-
-  pub same_next : p < length xs → p < length ys → get_or xs p 0 ≡ get_or ys p 0 →
-      same_words? (drop p xs) (drop p ys) ≡ same_words? (drop (p + 1) xs) (drop (p + 1) ys)
-  same_next h g e = step h g ∙ rw (eq-eqb (get_or xs p 0) (get_or ys p 0) e)
-
-  pub same_not : p < length xs → p < length ys → (get_or xs p 0 ≡ get_or ys p 0 → ⊥) → same_words? (drop p xs) (drop p ys) ≡ false
-  same_not h g e = step h g ∙ rw (ne_eqb (get_or xs p 0) (get_or ys p 0) e)
-
-  pub same_end : length xs ≤ p → length ys ≤ p → same_words? (drop p xs) (drop p ys) ≡ true
-  unfolding same_words?
-  same_end h g = rw (drop_of_length-le xs h, drop_of_length-le ys g)
-
-pub same_lengths : (xs ys : List ℕ) → (length xs ≡ length ys → ⊥) → same_words? xs ys ≡ false
-unfolding same_words?
-same_lengths [] [] h = absurd (h refl)
-same_lengths [] (y ∷ ys) h = refl
-same_lengths (x ∷ xs) [] h = refl
-same_lengths (x ∷ xs) (y ∷ ys) h = rw (same_lengths xs ys (λ e. h (ap suc e))) (by (eqb x y))
-  where
-    by : (c : Bool) → c && false ≡ false
-    by true = refl
-    by false = refl
-
--- whether a node has these words
-module _ (nodes : List ℕ) (n : ℕ) (ws : List ℕ) (h : HasNode nodes n) where
-  pub other-size : (get_or nodes (n * 27) 0 ≡ length ws → ⊥) → same_words? (front_at nodes n) ws ≡ false
-  other-size d = same_lengths (front_at nodes n) ws (λ e. d (sym (front_length nodes n h) ∙ e))
-
-  module _ (e : get_or nodes (n * 27) 0 ≡ length ws) (p : ℕ) where
-    front-size : length (front_at nodes n) ≡ length ws
-    front-size = front_length nodes n h ∙ e
-
-    here : p < length ws → get_or (front_at nodes n) p 0 ≡ get_or nodes (n * 27 + 1 + p) 0
-    here l = word_at nodes n p (omega arith)
-
-    pub word_same : p < length ws → get_or nodes (n * 27 + 1 + p) 0 ≡ get_or ws p 0 →
-        same_words? (drop p (front_at nodes n)) (drop p ws) ≡ same_words? (drop (p + 1) (front_at nodes n)) (drop (p + 1) ws)
-    word_same l q = let s = front-size in same_next (front_at nodes n) ws p (omega arith) l (here l ∙ q)
-
-    pub word-not : p < length ws → (get_or nodes (n * 27 + 1 + p) 0 ≡ get_or ws p 0 → ⊥) → same_words? (drop p (front_at nodes n)) (drop p ws) ≡ false
-    word-not l d = let s = front-size in same_not (front_at nodes n) ws p (omega arith) l (λ q. d (sym (here l) ∙ q))
-
-    pub words_same : length ws ≤ p → same_words? (drop p (front_at nodes n)) (drop p ws) ≡ true
-    words_same l = let s = front-size in same_end (front_at nodes n) ws p (omega arith) l
-
 -- ---- the first node with these words, from node n on
+
+not-true : (c : Bool) → (c ≡ true → ⊥) → c ≡ false
+not-true true h = absurd (h refl)
+not-true false h = refl
+
 module _ (ws nodes : List ℕ) (count n : ℕ) where
+  abbrev known_from : ℕ → List (List ℕ) → Option ℕ
+  known_from = position_from (λ f. bytes_eq f ws)
+
   from-here : n < count → drop n (fronts_of nodes count) ≡ front_at nodes n ∷ drop (n + 1) (fronts_of nodes count)
   from-here h =
       let s = fronts-length nodes count in
       drop-cons (fronts_of nodes count) n [] (omega arith) ∙ rw (add-one n, fronts-at nodes count n h)
 
-  pub known-here : n < count → same_words? (front_at nodes n) ws ≡ true → known_from ws n (drop n (fronts_of nodes count)) ≡ known.At n
-  unfolding known_from
-  known-here h e = rw (from-here h, e)
+  pub known-here : n < count → front_at nodes n ≡ ws → known_from n (drop n (fronts_of nodes count)) ≡ Some n
+  known-here h e = rw (from-here h, (bytes_eq-Decides (front_at nodes n) ws).1 e)
 
-  pub known_next : n < count → same_words? (front_at nodes n) ws ≡ false →
-      known_from ws n (drop n (fronts_of nodes count)) ≡ known_from ws (n + 1) (drop (n + 1) (fronts_of nodes count))
-  unfolding known_from
-  known_next h e = rw (from-here h, e, add-one n)
+  pub known_next : n < count → (front_at nodes n ≡ ws → ⊥) →
+      known_from n (drop n (fronts_of nodes count)) ≡ known_from (n + 1) (drop (n + 1) (fronts_of nodes count))
+  known_next h d = rw (from-here h, not-true (bytes_eq (front_at nodes n) ws) (λ e. d ((bytes_eq-Decides (front_at nodes n) ws).0 e)))
 
-  pub known-end : count ≤ n → known_from ws n (drop n (fronts_of nodes count)) ≡ known.Nothing
-  unfolding known_from
+  pub known-end : count ≤ n → known_from n (drop n (fronts_of nodes count)) ≡ None
   known-end h = rw (drop_of_length-le (fronts_of nodes count) {i = n} (rw (fronts-length nodes count) h))
 
 -- its number is one of theirs
-pub known-below : (ws : List ℕ) (n : ℕ) (fs : List (List ℕ)) (k : ℕ) → known_from ws n fs ≡ known.At k → k < n + length fs
-unfolding known_from
-known-below ws n [] k e = let z : ◌≡◌ {A = ℕ} 0 1 = cc in absurd (omega arith)
-known-below ws n (f ∷ fs) k e = by (same_words? f ws) (λ g. let l = known-below ws (suc n) fs k g in omega arith) e
+pub known-below : (ws : List ℕ) (n : ℕ) (fs : List (List ℕ)) (k : ℕ) → position_from (λ f. bytes_eq f ws) n fs ≡ Some k → k < n + length fs
+known-below ws n [] k e = absurd (none-some k e)
+known-below ws n (f ∷ fs) k e = by (bytes_eq f ws) (λ g. let l = known-below ws (n + 1) fs k g in omega arith) e
   where
-    by : (c : Bool) → (known_from ws (suc n) fs ≡ known.At k → k < n + suc (length fs)) → cond c (known.At n) (known_from ws (suc n) fs) ≡ known.At k →
-        k < n + suc (length fs)
-    by true rest g = let q : n ≡ k = cc in omega arith
+    by : (c : Bool) → (position_from (λ f. bytes_eq f ws) (n + 1) fs ≡ Some k → k < n + suc (length fs)) →
+        cond c (Some n) (position_from (λ f. bytes_eq f ws) (n + 1) fs) ≡ Some k → k < n + suc (length fs)
+    by true rest g = let q = same_Some n k g in omega arith
     by false rest g = rest g
 
 -- ---- the node that a zone gets
 pub still : (nodes : List ℕ) (count : ℕ) → Holds nodes count → StillHolds nodes nodes count
 still nodes count h = record { holds = h; length = refl }
 
-module _ (narrow : Bool) (ws nodes : List ℕ) (count : ℕ) where
-  pub added_full : count ≡ 64 → record { stop = stop.Nodes; number = 0; fronts = fronts_of nodes count } ≡ added_to narrow ws (fronts_of nodes count)
+module _ (front : Option (List ℕ)) (nodes : List ℕ) (count : ℕ) where
+  pub added_full : count ≡ 64 → Err reason.TooManyNodes ≡ added_to front (fronts_of nodes count)
   unfolding added_to
   added_full e = let s = fronts-length nodes count in rw (le-ltb (length (fronts_of nodes count)) 64 (omega arith))
 
-  module _ (h : count < 64) where
-    pub added-wide : narrow ≡ false →
-        record { stop = stop.Bounds; number = 0; fronts = fronts_of nodes count } ≡ added_to narrow ws (fronts_of nodes count)
-    unfolding added_to
-    added-wide e = let s = fronts-length nodes count in rw (lt-ltb (length (fronts_of nodes count)) 64 (omega arith), e)
+  pub added_room : count < 64 → new_node front (fronts_of nodes count) ≡ added_to front (fronts_of nodes count)
+  unfolding added_to
+  added_room h = let s = fronts-length nodes count in rw (lt-ltb (length (fronts_of nodes count)) 64 (omega arith))
 
-    pub added_new : (fs : List (List ℕ)) → narrow ≡ true → fs ≡ fronts_of nodes count ++ (ws ∷ []) →
-        record { stop = stop.None; number = count; fronts = fs } ≡ added_to narrow ws (fronts_of nodes count)
-    unfolding added_to
-    added_new fs e f =
-        let s = fronts-length nodes count in
-        rw (lt-ltb (length (fronts_of nodes count)) 64 (omega arith), e, f, s)
-
-module _ (narrow : Bool) (ws : List ℕ) (fs : List (List ℕ)) where
-  pub placed-known : (n : ℕ) → narrow ≡ true → known.At n ≡ known_from ws 0 fs →
-      record { stop = stop.None; number = n; fronts = fs } ≡ placed_in narrow ws fs
-  unfolding placed_in known_or
-  placed-known n e k = rw (e, ← k)
-
-  pub placed-new : narrow ≡ true → known.Nothing ≡ known_from ws 0 fs → added_to narrow ws fs ≡ placed_in narrow ws fs
-  unfolding placed_in known_or
-  placed-new e k = rw (e, ← k)
-
-  pub placed-wide : narrow ≡ false → added_to narrow ws fs ≡ placed_in narrow ws fs
-  unfolding placed_in
-  placed-wide e = rw e
+-- a new one, as the code returns it
+pub new-is : (nodes : List ℕ) (count : ℕ) (ws : List ℕ) {fs : List (List ℕ)} → fs ≡ fronts_of nodes count ++ (ws ∷ []) →
+    Ok (record { number = count; fronts = fs }) ≡ new_node (Some ws) (fronts_of nodes count)
+new-is nodes count ws e = rw (e, fronts-length nodes count)
 
 -- what holds of the nodes before, and with the new one, holds of the nodes after
-module _ (P : List (List ℕ) → Type 0) (ws : List ℕ) (fs : List (List ℕ)) (old : P fs) (new : P (fs ++ (ws ∷ []))) where
-  added-keeps : (narrow : Bool) → P (added_to narrow ws fs).fronts
+module _ (P : List (List ℕ) → Type 0) (fs : List (List ℕ)) (old : P fs) where
+  added-keeps : (front : Option (List ℕ)) → ((ws : List ℕ) → front ≡ Some ws → P (fs ++ (ws ∷ []))) → IfOk (added_to front fs) (λ p. P p.fronts)
   unfolding added_to
-  added-keeps narrow =
-      by-test (λ (p : Placing). P p.fronts) (ltb (length fs) 64) _ _
-      (λ _. by-test (λ (p : Placing). P p.fronts) narrow _ _ (λ _. new) (λ _. old)) (λ _. old)
+  added-keeps None new = by-test (λ (r : Result Placing Reason). IfOk r (λ p. P p.fronts)) (ltb (length fs) 64) _ _ (λ _. tt) (λ _. tt)
+  added-keeps (Some ws) new =
+      by-test (λ (r : Result Placing Reason). IfOk r (λ p. P p.fronts)) (ltb (length fs) 64) _ _ (λ _. new ws refl) (λ _. tt)
 
-  known-keeps : (k : Known) (narrow : Bool) → P (known_or k narrow ws fs).fronts
+  known-keeps : (k : Option ℕ) (ws : List ℕ) → P (fs ++ (ws ∷ [])) → IfOk (known_or k ws fs) (λ p. P p.fronts)
   unfolding known_or
-  known-keeps (known.At n) narrow = old
-  known-keeps known.Nothing narrow = added-keeps narrow
+  known-keeps (Some n) ws new = old
+  known-keeps None ws new = added-keeps (Some ws) (λ vs e. rw (← same_Some ws vs e) new)
 
-  pub placed-keeps : (narrow : Bool) → P (placed_in narrow ws fs).fronts
+  pub placed-keeps : (front : Option (List ℕ)) → ((ws : List ℕ) → front ≡ Some ws → P (fs ++ (ws ∷ []))) → IfOk (placed_in front fs) (λ p. P p.fronts)
   unfolding placed_in
-  placed-keeps narrow =
-      by-test (λ (p : Placing). P p.fronts) narrow _ _ (λ _. known-keeps (known_from ws 0 fs) narrow) (λ _. added-keeps narrow)
+  placed-keeps None new = added-keeps None new
+  placed-keeps (Some ws) new = known-keeps (known_in ws fs) ws (new ws refl)

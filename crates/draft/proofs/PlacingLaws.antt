@@ -1,19 +1,19 @@
 -- The node that front words find or add is the one that valuations ask for. Assumes nothing.
 use Prim.Native.Nat.{ℕ, zero, suc, ◌+◌, ◌≤◌, ◌<◌, zero-le, suc-le-suc}
-use mathlib.Core.Path.{◌≡◌, refl, sym, ap, ap₂, subst, ◌∙◌}
+use mathlib.Core.Path.{◌≡◌, refl, sym, ap, subst, ◌∙◌}
 use mathlib.Core.Logic.{inl, inr}
 use mathlib.Core.Bool.{Bool, true, false, cond}
 use mathlib.Core.List.{List, [], ◌∷◌, ◌++◌, map, map-append}
 use native.Mathlib.Nat as N
 use native.Mathlib.Omega.{arith}
-use borrow.Author.Tests.{eqb-true, eq-eqb, le-leb}
-use lib.Dec.{eqb, ltb}
+use borrow.Author.Tests.{le-leb}
+use lib.Dec.{ltb}
 use lib.IntN.{nat_abs}
 use lib.ListN.{get_or, length, drop, length-map}
 use Rattle.zone.specs.Scale.{Zone, within}
 use Rattle.zone.specs.Words.{zone_of}
-use Rattle.zone.specs.Checks.{Answer, refused, accepted, test, First}
-use Rattle.zone.proofs.Bools.{false_true, true_false, left_true, right_true}
+use Rattle.answers.specs.Checks.{Answer, refused, accepted, test, First}
+use Rattle.zone.proofs.Bools.{true_false}
 use Rattle.model.specs.Model.{Model}
 use Rattle.model.proofs.WellFormed.{WellFormed}
 use Rattle.table.specs.Fields.{location_of}
@@ -24,54 +24,39 @@ use Rattle.drafting.specs.Words.{front_words}
 use Rattle.drafting.proofs.BoundingLaws.{same_refl, bounds-one}
 use Rattle.drafting.proofs.WordBack.{AllFit, zone-back, node-fields}
 use Rattle.drafting.proofs.ExploreLaws.{Writable, Ready, bounds-fit}
-use Rattle.draft.specs.Nodes.{same_words?, known_from, Placing, added_to, known_or, placed_in}
-use Rattle.draft.specs.declared.nodes.Known.{Known as Lookup}
-use Rattle.draft.specs.declared.nodes.Known.TheVariants as known
-use Rattle.draft.specs.declared.nodes.Stop.TheVariants as stop
+use Rattle.std.specs.Prelude.{Option, Some, None, Result, Ok, Err, bytes_eq}
+use Rattle.std.specs.List.{position_from}
+use Rattle.std.proofs.lemmas.Slice.Eq.{bytes_eq-Decides}
+use Rattle.answers.specs.Refusals.{number}
+use Rattle.answers.specs.declared.Reason.{Reason}
+use Rattle.answers.specs.declared.Reason.TheVariants as reason
+use Rattle.draft.specs.Fronts.{front_for}
+use Rattle.draft.specs.Nodes.{known_in, Placing, new_node, added_to, known_or, placed_in}
 use Rattle.draft.proofs.NodeLaws.{map_at}
-
--- ---- equal words
-
-words-equal : (xs ys : List ℕ) → same_words? xs ys ≡ true → xs ≡ ys
-unfolding same_words?
-words-equal [] [] e = refl
-words-equal [] (y ∷ ys) e = false_true e
-words-equal (x ∷ xs) [] e = false_true e
-words-equal (x ∷ xs) (y ∷ ys) e =
-    ap₂ ◌∷◌ (eqb-true x y (left_true (eqb x y) (same_words? xs ys) e)) (words-equal xs ys (right_true (eqb x y) (same_words? xs ys) e))
-
-equal_words : (xs ys : List ℕ) → xs ≡ ys → same_words? xs ys ≡ true
-unfolding same_words?
-equal_words xs ys e = rw e (same ys)
-  where
-    same : (zs : List ℕ) → same_words? zs zs ≡ true
-    same [] = refl
-    same (z ∷ zs) = rw (eq-eqb z z refl, same zs)
 
 -- ---- looking front words up
 module _ (ws : List ℕ) where
   -- what is said of the nodes numbered from n on
-  abbrev Says : ℕ → List (List ℕ) → Lookup → Type 0
-  Says n fs known.Nothing = (i : ℕ) → i < length fs → get_or fs i [] ≡ ws → ⊥
-  Says n fs (known.At m) =
+  abbrev Says : ℕ → List (List ℕ) → Option ℕ → Type 0
+  Says n fs None = (i : ℕ) → i < length fs → get_or fs i [] ≡ ws → ⊥
+  Says n fs (Some m) =
       (i : ℕ) × (m ≡ n + i) × (i < length fs) × (get_or fs i [] ≡ ws) × ((j : ℕ) → j < i → get_or fs j [] ≡ ws → ⊥)
 
-  looks-up : (n : ℕ) (fs : List (List ℕ)) → Says n fs (known_from ws n fs)
-  unfolding known_from
+  looks-up : (n : ℕ) (fs : List (List ℕ)) → Says n fs (position_from (λ f. bytes_eq f ws) n fs)
   looks-up n [] = λ i h e. absurd (N.not-suc-le-zero h)
-  looks-up n (f ∷ fs) = by (same_words? f ws) refl (known_from ws (suc n) fs) (looks-up (suc n) fs)
+  looks-up n (f ∷ fs) = by (bytes_eq f ws) refl (position_from (λ f. bytes_eq f ws) (n + 1) fs) (looks-up (n + 1) fs)
     where
-      first : same_words? f ws ≡ false → f ≡ ws → ⊥
-      first c e = true_false (sym (equal_words f ws e) ∙ c)
+      first : bytes_eq f ws ≡ false → f ≡ ws → ⊥
+      first c e = true_false (sym ((bytes_eq-Decides f ws).1 e) ∙ c)
 
-      by : (c : Bool) → same_words? f ws ≡ c → (o : Lookup) → Says (suc n) fs o → Says n (f ∷ fs) (cond c (known.At n) o)
-      by true c o s = (0, sym (N.add-zero n), suc-le-suc zero-le, words-equal f ws c, λ j h e. absurd (N.not-suc-le-zero h))
-      by false c known.Nothing s = at
+      by : (c : Bool) → bytes_eq f ws ≡ c → (o : Option ℕ) → Says (n + 1) fs o → Says n (f ∷ fs) (cond c (Some n) o)
+      by true c o s = (0, sym (N.add-zero n), suc-le-suc zero-le, (bytes_eq-Decides f ws).0 c, λ j h e. absurd (N.not-suc-le-zero h))
+      by false c None s = at
         where
           at : (i : ℕ) → i < suc (length fs) → get_or (f ∷ fs) i [] ≡ ws → ⊥
           at zero h e = first c e
           at (suc i) h e = s i (N.le_of_suc-le-suc h) e
-      by false c (known.At m) s = (suc s.0, (let q = s.1 in omega arith), suc-le-suc s.2, s.3, before)
+      by false c (Some m) s = (suc s.0, (let q = s.1 in omega arith), suc-le-suc s.2, s.3, before)
         where
           before : (j : ℕ) → j < suc s.0 → get_or (f ∷ fs) j [] ≡ ws → ⊥
           before zero h e = first c e
@@ -91,16 +76,15 @@ fit-narrow C [] h = refl
 fit-narrow C (b ∷ Z) h = rw (le-leb (nat_abs b.d) 4095 h.0.small, fit-narrow C Z h.1)
 
 -- ---- what placing comes to: the node that the definition P gives, or its refusal
-pub data Places (P : Answer (Progress ℕ) → Type 0) : Placing → Type 0 where
+pub data Places (P : Answer (Progress ℕ) → Type 0) : Result Placing Reason → Type 0 where
   placed : (Fs : List Found) (n : ℕ) → P (accepted (record { found = Fs; result = n })) →
-      Places P (record { stop = stop.None; number = n; fronts = map front_words Fs })
-  full_nodes : (n : ℕ) (fs : List (List ℕ)) → P (refused 58 0) → Places P (record { stop = stop.Nodes; number = n; fronts = fs })
-  far_bounds : (n : ℕ) (fs : List (List ℕ)) → P (refused 59 0) → Places P (record { stop = stop.Bounds; number = n; fronts = fs })
+      Places P (Ok (record { number = n; fronts = map front_words Fs }))
+  not_placed : (r : Reason) → P (refused (number r) 0) → Places P (Err r)
 
 -- a new node
 added-right : (C l : ℕ) (S Z : Zone) (found : List Found) → BoundsOf C (within S) Z → ((n : ℕ) → Known found l S n → ⊥) →
-    Places (node_for C l S found) (added_to (narrow? Z) (front_words (record { location = l; zone = Z })) (map front_words found))
-unfolding added_to new_checks
+    Places (node_for C l S found) (added_to (front_for l Z) (map front_words found))
+unfolding added_to front_for new_checks number
 added-right C l S Z found b new =
     rw (length-map found front_words) (by (ltb (length found) 64) (narrow? Z) (λ a h. inr (new, (Z, b, h))))
   where
@@ -112,25 +96,23 @@ added-right C l S Z found b new =
 
     by : (c d : Bool) → ((a : Answer (Progress ℕ)) → First (test 58 0 c ∷ test 59 0 d ∷ []) (λ s. s ≡ step) a → node_for C l S found a) →
         Places (node_for C l S found)
-        (cond c
-        (cond d (record { stop = stop.None; number = length found; fronts = map front_words found ++ (front_words G ∷ []) })
-        (record { stop = stop.Bounds; number = 0; fronts = map front_words found }))
-        (record { stop = stop.Nodes; number = 0; fronts = map front_words found }))
+        (cond c (new_node (cond d (Some (front_words G)) None) (map front_words found)) (Err reason.TooManyNodes))
     by true true f =
-        subst (λ (fs : List (List ℕ)). Places (node_for C l S found) (record { stop = stop.None; number = length found; fronts = fs }))
-        (map-append front_words found (G ∷ [])) (placed (found ++ (G ∷ [])) (length found) (f _ (inl (tt, inl (tt, refl)))))
-    by true false f = far_bounds 0 _ (f _ (inl (tt, inr ((λ t. t), refl))))
-    by false d f = full_nodes 0 _ (f _ (inr ((λ t. t), refl)))
+        subst (λ (fs : List (List ℕ)). Places (node_for C l S found) (Ok (record { number = length (map front_words found); fronts = fs })))
+        (map-append front_words found (G ∷ []))
+        (rw (length-map found front_words) (placed (found ++ (G ∷ [])) (length found) (f _ (inl (tt, inl (tt, refl))))))
+    by true false f = not_placed reason.BoundTooFar (f _ (inl (tt, inr ((λ t. t), refl))))
+    by false d f = not_placed reason.TooManyNodes (f _ (inr ((λ t. t), refl)))
 
 -- the first node
-pub placed_first : (C l : ℕ) (S Z : Zone) → BoundsOf C (within S) Z →
-    Places (node_for C l S []) (placed_in (narrow? Z) (front_words (record { location = l; zone = Z })) [])
-unfolding placed_in known_from known_or
+pub placed_first : (C l : ℕ) (S Z : Zone) → BoundsOf C (within S) Z → Places (node_for C l S []) (placed_in (front_for l Z) [])
+unfolding placed_in known_or front_for
 placed_first C l S Z b = by (narrow? Z) (added-right C l S Z [] b (λ n k. N.not-suc-le-zero k.there))
   where
-    by : (c : Bool) → Places (node_for C l S []) (added_to c (front_words (record { location = l; zone = Z })) []) →
-        Places (node_for C l S [])
-        (cond c (added_to c (front_words (record { location = l; zone = Z })) []) (added_to c (front_words (record { location = l; zone = Z })) []))
+    front : Bool → Option (List ℕ)
+    front c = cond c (Some (front_words (record { location = l; zone = Z }))) None
+
+    by : (c : Bool) → Places (node_for C l S []) (added_to (front c) []) → Places (node_for C l S []) (placed_in (front c) [])
     by true h = h
     by false h = h
 
@@ -172,27 +154,27 @@ module _ {M : Model} (formed : WellFormed M) (few : length M.locations ≤ 16) (
           sym (zone-back M.clocks formed.clocks F.zone w.zone) ∙ ap (λ (ws : List ℕ). zone_of (drop 1 ws)) words
           ∙ zone-back M.clocks formed.clocks Z (bounds-fit (within Z) M.clocks formed.clock Z own (rw t tt))
 
-  known-right : (o : Lookup) → Says (front_words G) 0 (map front_words found) o → narrow? Z ≡ true →
-      Places (node_for M.clocks l Z found) (known_or o (narrow? Z) (front_words G) (map front_words found))
-  unfolding known_or
-  known-right known.Nothing s t =
-      added-right M.clocks l Z Z found own (λ n k. s n (rw (length-map found front_words) k.there) (known-words n k))
-  known-right (known.At m) s t =
+  known-right : (o : Option ℕ) → Says (front_words G) 0 (map front_words found) o → narrow? Z ≡ true →
+      Places (node_for M.clocks l Z found) (known_or o (front_words G) (map front_words found))
+  unfolding known_or front_for
+  known-right None s t =
+      let new = added-right M.clocks l Z Z found own (λ n k. s n (rw (length-map found front_words) k.there) (known-words n k)) in
+      rw t at new
+  known-right (Some m) s t =
       let is : m ≡ s.0 = s.1 ∙ N.zero-add s.0 in
       rw is
       (placed found s.0
       (inl (s.0, words-known t s.0 (rw (length-map found front_words) at s.2) s.3, (λ j h k. s.4 j h (known-words j k)), refl)))
 
-  pub placed-right : Places (node_for M.clocks l Z found) (placed_in (narrow? Z) (front_words G) (map front_words found))
-  unfolding placed_in
+  pub placed-right : Places (node_for M.clocks l Z found) (placed_in (front_for l Z) (map front_words found))
+  unfolding placed_in front_for
   placed-right = by (narrow? Z) refl
     where
       by : (c : Bool) → narrow? Z ≡ c →
-          Places (node_for M.clocks l Z found)
-          (cond c (known_or (known_from (front_words G) 0 (map front_words found)) (narrow? Z) (front_words G) (map front_words found))
-          (added_to (narrow? Z) (front_words G) (map front_words found)))
-      by true e = known-right (known_from (front_words G) 0 (map front_words found)) (looks-up (front_words G) 0 (map front_words found)) e
+          Places (node_for M.clocks l Z found) (placed_in (cond c (Some (front_words G)) None) (map front_words found))
+      by true e = known-right (known_in (front_words G) (map front_words found)) (looks-up (front_words G) 0 (map front_words found)) e
       by false e =
-          added-right M.clocks l Z Z found own
+          rw e at
+          (added-right M.clocks l Z Z found own
           (λ n k. true_false
-          (sym (fit-narrow M.clocks Z (subst (AllFit M.clocks) (known-zone n k) (all-below no_found n ready.all k.there).zone)) ∙ e))
+          (sym (fit-narrow M.clocks Z (subst (AllFit M.clocks) (known-zone n k) (all-below no_found n ready.all k.there).zone)) ∙ e)))

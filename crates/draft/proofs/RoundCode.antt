@@ -94,9 +94,6 @@ module _ (es codes vs : List ℕ) where
       pub small : best ≤ whole
       pub rest : largest_from es codes vs x (stop - a) a code best ≡ largest_from es codes vs x (stop - first) first at 0
 
-    pub largest_begin : (first stop at : ℕ) → LargestTo first stop at 0 at first
-    largest_begin first stop at = record { begun = N.le_refl first; place = omega arith; small = zero-le; rest = refl }
-
     -- the codes of 32 rows are at most 128
     pub largest-place : {first stop at best code a : ℕ} → LargestTo first stop at best code a → a < 32 → code + 4 ≤ at + 128
     largest-place k h =
@@ -183,12 +180,6 @@ module _ (x : Index) (es nodes codes ends : List ℕ) where
           same = λ e. true_false e;
         }
 
-    pub round-end : count ≤ n → (next ≡ round_below x es nodes codes ends count vs) × ValuesFit next × (changed ≡ false → next ≡ vs)
-    round-end h =
-        let few = k.few in
-        let all : n ≡ count = omega arith in
-        (rw all at k.is, k.fits, k.same)
-
   -- ---- rounds
 
   -- n of so many rounds lead to vs
@@ -221,7 +212,6 @@ module _ (x : Index) (es nodes codes ends : List ℕ) where
   still count vs h zero = refl
   still count vs h (suc n) = rw h (still count vs h n)
 
-  pub rounds-still : {count rounds : ℕ} {vs : List ℕ} {n : ℕ} → RoundsTo count rounds vs n → (us : List ℕ) →
-      us ≡ round_below x es nodes codes ends count vs → us ≡ vs → (us ≡ values_of x es nodes codes ends count rounds) × ValuesFit us
-  rounds-still {count} {rounds} {vs} {n} k us is same =
-      (same ∙ sym (still count vs (sym is ∙ same) (rounds - n)) ∙ k.rest, rw same k.fits)
+  pub rounds-still : {count rounds : ℕ} {vs : List ℕ} {n : ℕ} → RoundsTo count rounds vs n → round_below x es nodes codes ends count vs ≡ vs →
+      (vs ≡ values_of x es nodes codes ends count rounds) × ValuesFit vs
+  rounds-still {count} {rounds} {vs} {n} k same = (sym (still count vs same (rounds - n)) ∙ k.rest, k.fits)

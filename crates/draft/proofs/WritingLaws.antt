@@ -6,6 +6,7 @@ use native.Mathlib.Nat as N
 use native.Mathlib.Numerals.{add-one}
 use native.Mathlib.Omega.{arith}
 use lib.ListN.{get_or, set, take, drop, length, length-append, length-take, length-drop, length-map, take-append-drop}
+use borrow.Rule.Slice.PartMut.{put_mid}
 use lib.Seq.{slice, length-slice, length-take-le, take_at, drop-append-add, drop-drop, drop-cons, drop-length, set_split, get_or-take, get_or-drop}
 use Rattle.drafting.specs.Words.{whole, word}
 use Rattle.draft.specs.Nodes.{front_at, HasNode}
@@ -36,6 +37,10 @@ written-length L at ws h = simp (length-append, length-take, length-drop) (omega
 
 written-nothing : (L : List ℕ) (at : ℕ) → written L at [] ≡ L
 written-nothing L at = rw (N.add-zero at) (take-append-drop at L)
+
+-- a part that is overwritten
+pub part-written : (L : List ℕ) (at n : ℕ) (ws ys : List ℕ) → ys ≡ ws → n ≡ length ws → put_mid at n L ys ≡ written L at ws
+part-written L at n ws ys e q = rw (e, q, drop-drop (length ws) at L) refl
 
 one_word : (L : List ℕ) (at w : ℕ) → at < length L → set L at w ≡ written L at (w ∷ [])
 one_word L at w h = rw (add-one at) (set_split L at w h)

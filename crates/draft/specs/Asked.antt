@@ -1,5 +1,5 @@
 -- What exploring and the rounds ask of what is kept of a model, and of the stores; what the stores are after a call. Assumes nothing.
-use Rattle.std.specs.Prelude.{ℕ, zero, suc, ◌+◌, ◌≤◌, ◌<◌, ◌≡◌, List, [], get_or, length}
+use Rattle.std.specs.Prelude.{ℕ, zero, suc, ◌+◌, ◌≤◌, ◌<◌, ◌≡◌, List, [], get_or, length, Option, Some, None}
 use Rattle.zone.specs.Squares.{Tightens}
 use Rattle.zone.specs.Stores.{zone_at}
 use Rattle.model.specs.Fields.{lands_at, weight_of}
@@ -11,7 +11,8 @@ use Rattle.table.specs.Scan.{edges_at}
 use Rattle.drafting.specs.Words.{whole}
 use Rattle.draft.specs.Fronts.{Clocks}
 use Rattle.draft.specs.Nodes.{Holds}
-use Rattle.draft.specs.declared.explore.Extent.{Extent}
+use Rattle.draft.specs.declared.explore.ZoneGraph.{ZoneGraph}
+use Rattle.draft.specs.declared.rounds.Values.{Values}
 
 -- ---- of the model
 
@@ -59,23 +60,29 @@ pub record Located (L : ℕ) (fronts : List (List ℕ)) : Type 0 where
   pub at : (n : ℕ) → n < length fronts → location_of (get_or (get_or fronts n []) 0 0) < L
 
 -- the stores hold what is found, and there is room for so many codes more
-pub record Roomy (nodes codes : List ℕ) (x : Extent) (more : ℕ) : Type 0 where
-  pub holds : Holds nodes x.nodes
-  pub room : x.codes + more ≤ length codes
+pub record Roomy (g : ZoneGraph) (more : ℕ) : Type 0 where
+  pub holds : Holds g.nodes g.count
+  pub room : g.used + more ≤ length g.codes
 
 -- stores after a call are as long as before, hold what is found then, no fewer nodes and codes than before, and at most so many codes more
-pub record Grown (nodes codes nodes' codes' : List ℕ) (x y : Extent) (more : ℕ) : Type 0 where
-  pub holds : Holds nodes' y.nodes
-  pub node_room : length nodes' ≡ length nodes
-  pub code_room : length codes' ≡ length codes
-  pub more_nodes : x.nodes ≤ y.nodes
-  pub more_codes : x.codes ≤ y.codes
-  pub few : y.codes ≤ x.codes + more
+pub record Grown (g h : ZoneGraph) (more : ℕ) : Type 0 where
+  pub holds : Holds h.nodes h.count
+  pub node_room : length h.nodes ≡ length g.nodes
+  pub code_room : length h.codes ≡ length g.codes
+  pub ends : h.ends ≡ g.ends
+  pub more_nodes : g.count ≤ h.count
+  pub more_codes : g.used ≤ h.used
+  pub few : h.used ≤ g.used + more
 
 -- of values, 128 of them: none is above V
 pub record ValuesFit (vs : List ℕ) : Type 0 where
   pub size : length vs ≡ 128
   pub small : (n : ℕ) → get_or vs n 0 ≤ whole
+
+-- the values after a round, or none where it leaves the values vs as they are
+abbrev pub Rounded : Option Values → List ℕ → List ℕ → Type 0
+Rounded None vs after = after ≡ vs
+Rounded (Some r) vs after = (r.list ≡ after) × ValuesFit r.list
 
 -- the codes end where there is room behind them for those of any node
 pub record EndsFit (cs es : List ℕ) : Type 0 where

@@ -1,5 +1,5 @@
 -- Algorithm: the bounds of a square table as a node has them, and the words of a node's location and bounds. Assumes nothing.
-use Rattle.std.specs.Prelude.{ℕ, ◌≤◌, ◌≡◌, Bool, true, cond, List, [], ◌∷◌, ◌++◌, eqb, leb, nat_abs, take}
+use Rattle.std.specs.Prelude.{ℕ, ◌≤◌, ◌≡◌, Bool, cond, List, [], ◌∷◌, ◌++◌, eqb, leb, nat_abs, take, Option, Some, None, option_map}
 use Rattle.zone.specs.Scale.{Bound, Zone}
 use Rattle.zone.specs.Keys.{half, lowest, said_of}
 use Rattle.zone.specs.Squares.{cell, empty?}
@@ -8,7 +8,7 @@ use Rattle.zone.specs.declared.zones.Zone.{Zone as Square}
 use Rattle.drafting.specs.Bounding.{Pair, pairs, empty_zone}
 use Rattle.drafting.specs.Exploring.{narrow?}
 use Rattle.drafting.specs.Words.{front_words}
-use Rattle.draft.specs.declared.fronts.Front.{Front}
+use Rattle.draft.specs.declared.front.Front.{Front}
 
 -- the bound that a cell says of clock i minus clock j
 abbrev pub bound_at : ℕ → ℕ → Cell → Bound
@@ -32,13 +32,16 @@ pub record Clocks (C : ℕ) : Type 0 where
   pub some : 1 ≤ C
   pub few : C ≤ 4
 
--- there is room for the words and, where the bounds are narrow, at least that of the location
-pub record FrontFits (f : Front) : Type 0 where
-  pub room : f.size ≤ 26
-  pub some : f.narrow ≡ true → 1 ≤ f.size
-
 -- the front words of a node at the location l with the bounds Z, where these are narrow
-pub record FrontOf (f : Front) (l : ℕ) (Z : Zone) : Type 0 where
-  pub narrow : f.narrow ≡ narrow? Z
-  pub words : f.narrow ≡ true → take f.size f.list ≡ front_words (record { location = l; zone = Z })
-  pub fits : FrontFits f
+unfoldable pub front_for : ℕ → Zone → Option (List ℕ)
+front_for l Z = cond (narrow? Z) (Some (front_words (record { location = l; zone = Z }))) None
+
+abbrev pub front_list : Front → List ℕ
+front_list f = take f.size f.list
+
+-- what the code has of them
+abbrev pub front_said : Option Front → Option (List ℕ)
+front_said r = option_map front_list r
+
+pub record FrontOf (r : Option Front) (l : ℕ) (Z : Zone) : Type 0 where
+  pub is : front_said r ≡ front_for l Z

@@ -1,7 +1,4 @@
--- A draft's answer in the documents' numbers (Answers, Numbers), and the algorithms that the contracts of `draft` cite: a node's words, the nodes found,
--- exploring, what these ask, the values and the words written.
-pub mod Answers
-pub mod Numbers
+-- The algorithms that the contracts of `draft` cite: a node's words, the nodes found, exploring, what these ask, the values and the words written.
 pub mod Fronts
 pub mod Nodes
 pub mod Exploration

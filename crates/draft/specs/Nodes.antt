@@ -1,10 +1,9 @@
 -- Algorithm: the nodes found, by their front words, in a store of words; and the node that a zone gets. Assumes nothing.
-use Rattle.std.specs.Prelude.{ℕ, suc, ◌+◌, ◌*◌, ◌≤◌, ◌<◌, ◌≡◌, Bool, true, false, cond, ◌&&◌, List, [], ◌∷◌, ◌++◌, eqb, ltb, get_or, length, take, drop}
+use Rattle.std.specs.Prelude.{ℕ, ◌+◌, ◌*◌, ◌≤◌, ◌<◌, ◌≡◌, cond, List, [], ◌∷◌, ◌++◌, ltb, get_or, length, take, drop, Option, Some, None, Result, Ok, Err, bytes_eq}
+use Rattle.std.specs.List.{position_from}
+use Rattle.answers.specs.declared.Reason.{Reason}
+use Rattle.answers.specs.declared.Reason.TheVariants as reason
 use Rattle.zone.specs.Squares.{list_of}
-use Rattle.draft.specs.declared.nodes.Known.{Known}
-use Rattle.draft.specs.declared.nodes.Known.TheVariants as known
-use Rattle.draft.specs.declared.nodes.Stop.{Stop}
-use Rattle.draft.specs.declared.nodes.Stop.TheVariants as stop
 use Rattle.draft.specs.declared.nodes.Placed.{Placed}
 
 -- ---- the store: 27 words to a node, the number of its front words and then these
@@ -28,46 +27,44 @@ pub record Holds (store : List ℕ) (count : ℕ) : Type 0 where
   pub room : 64 * 27 ≤ length store
   pub nodes : (n : ℕ) → n < count → HasNode store n
 
--- ---- a node that is known
-
-unfoldable pub same_words? : List ℕ → List ℕ → Bool
-same_words? [] [] = true
-same_words? [] (y ∷ ys) = false
-same_words? (x ∷ xs) [] = false
-same_words? (x ∷ xs) (y ∷ ys) = eqb x y && same_words? xs ys
-
--- the first of the nodes, numbered from n on, with these front words
-unfoldable pub known_from : List ℕ → ℕ → List (List ℕ) → Known
-known_from ws n [] = known.Nothing
-known_from ws n (f ∷ fs) = cond (same_words? f ws) (known.At n) (known_from ws (suc n) fs)
-
 -- ---- the node that a zone gets: a known one or, unless it is a 65th (58) or its bounds are not narrow (59), a new one
 
+-- the first of the nodes with these front words
+abbrev pub known_in : List ℕ → List (List ℕ) → Option ℕ
+known_in ws fs = position_from (λ f. bytes_eq f ws) 0 fs
+
 pub record Placing : Type 0 where
-  pub stop : Stop
   pub number : ℕ
   pub fronts : List (List ℕ)
 
-unfoldable pub added_to : Bool → List ℕ → List (List ℕ) → Placing
-added_to narrow ws fs =
-    cond (ltb (length fs) 64)
-    (cond narrow (record { stop = stop.None; number = length fs; fronts = fs ++ (ws ∷ []) })
-    (record { stop = stop.Bounds; number = 0; fronts = fs }))
-    (record { stop = stop.Nodes; number = 0; fronts = fs })
+-- a new one; no front words are those of bounds that are not narrow
+abbrev pub new_node : Option (List ℕ) → List (List ℕ) → Result Placing Reason
+new_node None fs = Err reason.BoundTooFar
+new_node (Some ws) fs = Ok (record { number = length fs; fronts = fs ++ (ws ∷ []) })
 
-unfoldable pub known_or : Known → Bool → List ℕ → List (List ℕ) → Placing
-known_or (known.At n) narrow ws fs = record { stop = stop.None; number = n; fronts = fs }
-known_or known.Nothing narrow ws fs = added_to narrow ws fs
+unfoldable pub added_to : Option (List ℕ) → List (List ℕ) → Result Placing Reason
+added_to front fs = cond (ltb (length fs) 64) (new_node front fs) (Err reason.TooManyNodes)
+
+unfoldable pub known_or : Option ℕ → List ℕ → List (List ℕ) → Result Placing Reason
+known_or (Some n) ws fs = Ok (record { number = n; fronts = fs })
+known_or None ws fs = added_to (Some ws) fs
 
 -- bounds that are not narrow are no known node's
-unfoldable pub placed_in : Bool → List ℕ → List (List ℕ) → Placing
-placed_in narrow ws fs = cond narrow (known_or (known_from ws 0 fs) narrow ws fs) (added_to narrow ws fs)
+unfoldable pub placed_in : Option (List ℕ) → List (List ℕ) → Result Placing Reason
+placed_in None fs = added_to None fs
+placed_in (Some ws) fs = known_or (known_in ws fs) ws fs
 
 -- what the code returns, with what it leaves in the store
-abbrev pub placing_of : Placed → List ℕ → Placing
-placing_of r nodes = record { stop = r.stop; number = r.number; fronts = fronts_of nodes r.count }
+abbrev pub placing_of : Result Placed Reason → List ℕ → Result Placing Reason
+placing_of (Ok p) nodes = Ok (record { number = p.number; fronts = fronts_of nodes p.count })
+placing_of (Err r) nodes = Err r
 
 -- a store after a call holds so many nodes and is as long as before
 pub record StillHolds (before after : List ℕ) (count : ℕ) : Type 0 where
   pub holds : Holds after count
   pub length : length after ≡ length before
+
+-- with the node placed, whose number is one of theirs
+pub record Stays (before after : List ℕ) (p : Placed) : Type 0 where
+  pub still : StillHolds before after p.count
+  pub small : p.number < 64

@@ -1,13 +1,13 @@
 -- Algorithm: the words of a draft, from the stores, and how they come into the lent words. Assumes nothing.
-use Rattle.std.specs.Prelude.{ℕ, zero, suc, ◌+◌, ◌%◌, ◌≤◌, ◌<◌, ◌≡◌, cond, List, [], ◌∷◌, ◌++◌, map, eqb, leb, get_or, length, take, drop}
+use Rattle.std.specs.Prelude.{ℕ, min, zero, suc, ◌+◌, ◌%◌, ◌≤◌, ◌<◌, ◌≡◌, cond, List, [], ◌∷◌, ◌++◌, map, eqb, leb, get_or, length, take, drop}
 use Rattle.std.proofs.Math.Seq.{slice}
-use Rattle.zone.specs.Checks.{Answer, refused, accepted}
+use Rattle.answers.specs.Checks.{Answer, refused, accepted}
 use Rattle.drafting.specs.Words.{whole, word}
 use Rattle.draft.specs.Nodes.{front_at, HasNode, Holds}
-use Rattle.draft.specs.Values.{begin_of}
+use Rattle.model.specs.Index.{Kept}
+use Rattle.draft.specs.Values.{begin_of, values_of}
+use Rattle.draft.specs.declared.explore.ZoneGraph.{ZoneGraph}
 use Rattle.draft.specs.Asked.{ValuesFit, EndsFit}
-use Rattle.draft.specs.declared.nodes.Stop.TheVariants as stop
-use Rattle.draft.specs.declared.explore.Extent.{Extent}
 
 -- the word of a code
 unfoldable pub row_word : ℕ → ℕ
@@ -26,6 +26,10 @@ module _ (nodes vs codes ends : List ℕ) where
   -- the draft of so many nodes
   unfoldable pub draft_text : ℕ → List ℕ
   draft_text count = word 7 whole ∷ (nodes_text count 0 ++ (word 12 0 ∷ []))
+
+-- that of what is found, with the values after so many rounds; rounds above 1,000 count as 1,000
+abbrev pub drafted_in : Kept → ZoneGraph → ℕ → List ℕ
+drafted_in m g rounds = draft_text g.nodes (values_of m.index m.edges g.nodes g.codes g.ends g.count (min rounds 1000)) g.codes g.ends g.count
 
 -- a list with ws in place of what stands from `at` on
 abbrev pub written : List ℕ → ℕ → List ℕ → List ℕ
@@ -46,10 +50,6 @@ pub record Finishes (nodes codes ends : List ℕ) (count : ℕ) : Type 0 where
   pub holds : Holds nodes count
   pub fits : EndsFit codes ends
   pub rises : (n : ℕ) → n < count → begin_of ends n ≤ get_or ends n 0
-
--- so the stores are after exploring, unless it is refused
-pub record FinishesAfter (nodes codes ends : List ℕ) (x : Extent) : Type 0 where
-  pub finishes : x.stop ≡ stop.None → Finishes nodes codes ends x.nodes
 
 -- with values
 pub record TextFits (nodes vs codes ends : List ℕ) (count : ℕ) : Type 0 where

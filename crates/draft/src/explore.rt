@@ -1,18 +1,17 @@
-// Exploring forward: nodes in order of discovery, then by action and edge. What is found stands in stores that the caller lends.
-ghost use Rattle.std.specs.Prelude.{◌≡◌, ◌+◌, ◌-◌, ◌≤◌, ◌<◌, [], get_or};
+// Exploring forward: nodes in order of discovery, then by action and edge.
+ghost use Rattle.std.specs.Prelude.{◌≡◌, ◌+◌, ◌-◌, ◌≤◌, ◌<◌, [], get_or, OnOk};
 ghost use Rattle.zone.specs.Squares.{Tightens, inside?};
 ghost use Rattle.model.specs.Fields.{lands_at};
-ghost use Rattle.model.specs.Index.{keep};
 ghost use Rattle.table.specs.Scan.{edges_at};
 ghost use Rattle.draft.specs.Fronts.{Clocks};
 ghost use Rattle.draft.specs.Nodes.{fronts_of, Holds};
-ghost use Rattle.draft.specs.Exploration.{graph_of, ExploredIn, code_of, landed_square, with_successor, successors_from, with_row, rows_from, with_node};
+ghost use Rattle.draft.specs.Exploration.{kept_of, graph_of, found_of, explored_of, code_of, landed_square, with_successor, successors_from, with_row, rows_from, with_node};
 ghost use Rattle.draft.specs.Exploration.{nodes_from, start_graph};
 ghost use Rattle.draft.specs.Asked.{ActionAsked, ModelAsked, Located, Roomy, Grown, EndsFit};
-ghost use Rattle.draft.specs.Writing.{FinishesAfter};
+ghost use Rattle.draft.specs.Writing.{Finishes};
 
-use crate::nodes::Stop;
 use crate::{fronts, nodes};
+use answers::Reason;
 use judge::reaching;
 use model::fields;
 use model::index::Index;
@@ -23,16 +22,28 @@ use zone::zones::Zone;
 pub(crate) const CODES: usize = 8320;
 
 // The code of an A word. That of a B word is the number of its node, with OUTSIDE more where its edge can land outside.
+// kept: a code is the number of its value in the sum, so that an enum would only be turned into that number at each edge of each round.
 pub(crate) const BLOCKED: u8 = 255;
 
 pub(crate) const OUTSIDE: usize = 64;
 
-// How many nodes and codes are found so far, and why exploring is refused, if it is.
+// What is kept of a model, as exploring and the rounds read it.
 #[derive(Clone, Copy)]
-pub(crate) struct Extent {
-    pub stop: Stop,
-    pub nodes: usize,
-    pub codes: usize,
+pub(crate) struct Source<'a> {
+    pub index: &'a Index,
+    pub edges: &'a [u32],
+    pub zones: &'a [Zone],
+}
+
+// What is found of the zone graph: so many nodes as `count`, their rows in so many codes as `used`, and where the codes of each node explored end.
+// Arrays with counts beside them: no call uses the heap.
+#[derive(Drop)]
+pub(crate) struct ZoneGraph {
+    pub nodes: [u32; 1728],
+    pub codes: [u8; 8320],
+    pub ends: [usize; 64],
+    pub count: usize,
+    pub used: usize,
 }
 
 // The code of a B word.
@@ -57,192 +68,111 @@ pub(crate) fn landed(landings: Zone, invariant: Zone, inside: bool) -> Zone
     reaching::common(landings, invariant)
 }
 
-// With the successor of an edge, from a reach that is not empty: its zone is the smallest that holds the landings inside.
-pub(crate) fn successor(
-    index: Index,
-    edges: &[u32],
-    zones: &[i32],
-    reach: Zone,
-    e: usize,
-    nodes: &mut [u32],
-    codes: &mut [u8],
-    extent: Extent,
-) -> Extent
-    requires { ModelAsked (keep index edges.now zones.now) × Tightens 1 reach × (e < 128) × (lands_at (get_or edges.now e 0) < index.locations) × Roomy nodes.old codes.old extent 1 }
-    ensures grows { Grown nodes.old codes.old nodes.new codes.new extent result 1 }
-    ensures finds { graph_of result nodes.new codes.new ≡ with_successor (keep index edges.now zones.now) reach (get_or edges.now e 0) (graph_of extent nodes.old codes.old) }
-{
-    let edge = edges[e];
-    let to = fields::lands_at(edge);
-    let landings = reach.reset(fields::mask_of(edge));
-    let invariant = Zone::load(zones, to as usize);
-    let inside = landings.inside(invariant);
-    let front = fronts::front_of(to, index.clocks, landed(landings, invariant, inside));
-    let placed = nodes::place(nodes, extent.nodes, front);
-    let at = extent.codes;
-    let stop = placed.stop;
-    let Stop::None = stop else {
-        return Extent {
-            stop,
-            nodes: placed.count,
-            codes: at,
-        };
-    };
-    codes[at] = code_of(placed.number, !inside);
-    Extent {
-        stop: Stop::None,
-        nodes: placed.count,
-        codes: at + 1,
+impl ZoneGraph {
+    // With the successor of an edge, from a reach that is not empty: its zone is the smallest that holds the landings inside.
+    pub(crate) fn successor(&mut self, source: &Source, reach: Zone, e: usize) -> Result<(), Reason>
+        requires { ModelAsked (kept_of source.now) × Tightens 1 reach × (e < 128) × (lands_at (get_or source.now.edges.now e 0) < source.now.index.now.locations) × Roomy self.old 1 }
+        ensures grows { OnOk result (Grown self.old self.new 1) }
+        ensures finds { found_of result self.new ≡ with_successor (kept_of source.now) reach (get_or source.now.edges.now e 0) (graph_of self.old) }
+    {
+        let edge = source.edges[e];
+        let to = fields::lands_at(edge);
+        let landings = reach.reset(fields::mask_of(edge));
+        let invariant = source.zones[to as usize];
+        let inside = landings.inside(invariant);
+        let front = fronts::front_of(to, source.index.clocks, landed(landings, invariant, inside));
+        let placed = nodes::place(&mut self.nodes, self.count, &front)?;
+        self.codes[self.used] = code_of(placed.number, !inside);
+        self.count = placed.count;
+        self.used += 1;
+        Ok(())
     }
-}
 
-// With the successors of an action's edges, from a reach that is not empty.
-pub(crate) fn successors(
-    index: Index,
-    edges: &[u32],
-    zones: &[i32],
-    reach: Zone,
-    a: usize,
-    nodes: &mut [u32],
-    codes: &mut [u8],
-    extent: Extent,
-) -> Extent
-    requires { ModelAsked (keep index edges.now zones.now) × Tightens 1 reach × (a < 32) × ActionAsked (keep index edges.now zones.now) a × Roomy nodes.old codes.old extent 4 }
-    ensures grows { Grown nodes.old codes.old nodes.new codes.new extent result 4 }
-    ensures finds { graph_of result nodes.new codes.new ≡ successors_from (keep index edges.now zones.now) reach (edges_at index a) (get_or index.edges a 0) (graph_of extent nodes.old codes.old) }
-{
-    let mut found = extent;
-    for e in index.edges[a] as usize..index.edges[a + 1] as usize {
-        found = successor(index, edges, zones, reach, e, nodes, codes, found);
-        let stop = found.stop;
-        let Stop::None = stop else {
-            return found;
-        };
-    }
-    found
-}
-
-// With the row of an action: one A word where its reach is empty. Waiting attains `waited`.
-pub(crate) fn row(
-    index: Index,
-    edges: &[u32],
-    zones: &[i32],
-    waited: Zone,
-    a: usize,
-    nodes: &mut [u32],
-    codes: &mut [u8],
-    extent: Extent,
-) -> Extent
-    requires { ModelAsked (keep index edges.now zones.now) × Tightens 2 waited × (a < 32) × ActionAsked (keep index edges.now zones.now) a × Roomy nodes.old codes.old extent 4 }
-    ensures grows { Grown nodes.old codes.old nodes.new codes.new extent result 4 }
-    ensures finds { graph_of result nodes.new codes.new ≡ with_row (keep index edges.now zones.now) waited a (graph_of extent nodes.old codes.old) }
-{
-    let reach = reaching::common(waited, Zone::load(zones, GUARDS + a));
-    if reach.is_empty() {
-        let at = extent.codes;
-        codes[at] = BLOCKED;
-        return Extent {
-            stop: Stop::None,
-            nodes: extent.nodes,
-            codes: at + 1,
-        };
-    }
-    successors(index, edges, zones, reach, a, nodes, codes, extent)
-}
-
-// With the rows of a location's actions.
-pub(crate) fn rows(
-    index: Index,
-    edges: &[u32],
-    zones: &[i32],
-    waited: Zone,
-    l: usize,
-    nodes: &mut [u32],
-    codes: &mut [u8],
-    extent: Extent,
-) -> Extent
-    requires { ModelAsked (keep index edges.now zones.now) × Tightens 2 waited × (l < index.locations) × Roomy nodes.old codes.old extent 128 }
-    ensures grows { Grown nodes.old codes.old nodes.new codes.new extent result 128 }
-    ensures finds { graph_of result nodes.new codes.new ≡ rows_from (keep index edges.now zones.now) waited (get_or index.actions (l + 1) 0 - get_or index.actions l 0) (get_or index.actions l 0) (graph_of extent nodes.old codes.old) }
-{
-    let mut found = extent;
-    for a in index.actions[l] as usize..index.actions[l + 1] as usize {
-        found = row(index, edges, zones, waited, a, nodes, codes, found);
-        let stop = found.stop;
-        let Stop::None = stop else {
-            return found;
-        };
-    }
-    found
-}
-
-// With the rows of the node n; a target has none.
-pub(crate) fn explore_node(
-    index: Index,
-    edges: &[u32],
-    zones: &[i32],
-    n: usize,
-    nodes: &mut [u32],
-    codes: &mut [u8],
-    extent: Extent,
-) -> Extent
-    requires { ModelAsked (keep index edges.now zones.now) × (n < extent.nodes) × Located index.locations (fronts_of nodes.old extent.nodes) × Roomy nodes.old codes.old extent 128 }
-    ensures grows { Grown nodes.old codes.old nodes.new codes.new extent result 128 }
-    ensures finds { graph_of result nodes.new codes.new ≡ with_node (keep index edges.now zones.now) n (graph_of extent nodes.old codes.old) }
-{
-    let l = nodes::location_at(nodes, n) as usize;
-    if index.targets[l] {
-        return extent;
-    }
-    let zone = nodes::zone_at(nodes, n, index.clocks);
-    let waited = reaching::waited(zone, Zone::load(zones, l));
-    rows(index, edges, zones, waited, l, nodes, codes, extent)
-}
-
-// Explores the nodes, from the start node on, as far as there are nodes; `ends` gets where the codes of each end.
-pub(crate) fn explore(
-    index: Index,
-    edges: &[u32],
-    zones: &[i32],
-    nodes: &mut [u32],
-    codes: &mut [u8],
-    ends: &mut [usize],
-    start: Extent,
-) -> Extent
-    requires { ModelAsked (keep index edges.now zones.now) × Located index.locations (fronts_of nodes.old start.nodes) × Holds nodes.old start.nodes × (start.codes ≡ 0) × EndsFit codes.old ends.old }
-    ensures finds { ExploredIn nodes.new codes.new ends.new result (nodes_from (keep index edges.now zones.now) 64 0 [] (graph_of start nodes.old codes.old)) }
-    ensures holds { Holds nodes.new result.nodes × Located index.locations (fronts_of nodes.new result.nodes) × (result.codes ≤ 8192) }
-    ensures finishes { FinishesAfter nodes.new codes.new ends.new result }
-{
-    let mut found = start;
-    for n in 0..64 {
-        if found.nodes <= n {
-            return found;
+    // With the successors of an action's edges, from a reach that is not empty.
+    pub(crate) fn successors(
+        &mut self,
+        source: &Source,
+        reach: Zone,
+        a: usize,
+    ) -> Result<(), Reason>
+        requires { ModelAsked (kept_of source.now) × Tightens 1 reach × (a < 32) × ActionAsked (kept_of source.now) a × Roomy self.old 4 }
+        ensures grows { OnOk result (Grown self.old self.new 4) }
+        ensures finds { found_of result self.new ≡ successors_from (kept_of source.now) reach (edges_at source.now.index.now a) (get_or source.now.index.now.edges a 0) (graph_of self.old) }
+    {
+        for e in source.index.edges[a] as usize..source.index.edges[a + 1] as usize {
+            self.successor(source, reach, e)?;
         }
-        found = explore_node(index, edges, zones, n, nodes, codes, found);
-        let stop = found.stop;
-        let Stop::None = stop else {
-            return found;
-        };
-        ends[n] = found.codes;
+        Ok(())
     }
-    found
-}
 
-// The start node.
-pub(crate) fn start(index: Index, initial: Zone, nodes: &mut [u32]) -> Extent
-    requires { Holds nodes.old 0 × (index.start < 16) × Clocks index.clocks }
-    ensures { Holds nodes.new result.nodes × (result.codes ≡ 0) × (graph_of result nodes.new [] ≡ start_graph index initial) }
-{
-    let placed = nodes::place(
-        nodes,
-        0,
-        fronts::front_of(index.start, index.clocks, initial),
-    );
-    let stop = placed.stop;
-    Extent {
-        stop,
-        nodes: placed.count,
-        codes: 0,
+    // With the row of an action: one A word where its reach is empty. Waiting attains `waited`.
+    pub(crate) fn row(&mut self, source: &Source, waited: Zone, a: usize) -> Result<(), Reason>
+        requires { ModelAsked (kept_of source.now) × Tightens 2 waited × (a < 32) × ActionAsked (kept_of source.now) a × Roomy self.old 4 }
+        ensures grows { OnOk result (Grown self.old self.new 4) }
+        ensures finds { found_of result self.new ≡ with_row (kept_of source.now) waited a (graph_of self.old) }
+    {
+        let reach = reaching::common(waited, source.zones[GUARDS + a]);
+        if reach.is_empty() {
+            self.codes[self.used] = BLOCKED;
+            self.used += 1;
+            return Ok(());
+        }
+        self.successors(source, reach, a)
+    }
+
+    // With the rows of a location's actions.
+    pub(crate) fn rows(&mut self, source: &Source, waited: Zone, l: usize) -> Result<(), Reason>
+        requires { ModelAsked (kept_of source.now) × Tightens 2 waited × (l < source.now.index.now.locations) × Roomy self.old 128 }
+        ensures grows { OnOk result (Grown self.old self.new 128) }
+        ensures finds { found_of result self.new ≡ rows_from (kept_of source.now) waited (get_or source.now.index.now.actions (l + 1) 0 - get_or source.now.index.now.actions l 0) (get_or source.now.index.now.actions l 0) (graph_of self.old) }
+    {
+        for a in source.index.actions[l] as usize..source.index.actions[l + 1] as usize {
+            self.row(source, waited, a)?;
+        }
+        Ok(())
+    }
+
+    // With the rows of the node n; a target has none.
+    pub(crate) fn explore_node(&mut self, source: &Source, n: usize) -> Result<(), Reason>
+        requires { ModelAsked (kept_of source.now) × (n < self.old.count) × Located source.now.index.now.locations (fronts_of self.old.nodes self.old.count) × Roomy self.old 128 }
+        ensures grows { OnOk result (Grown self.old self.new 128) }
+        ensures finds { found_of result self.new ≡ with_node (kept_of source.now) n (graph_of self.old) }
+    {
+        let l = nodes::location_at(&self.nodes, n) as usize;
+        if source.index.targets[l] {
+            return Ok(());
+        }
+        let zone = nodes::zone_at(&self.nodes, n, source.index.clocks);
+        let waited = reaching::waited(zone, source.zones[l]);
+        self.rows(source, waited, l)
+    }
+
+    // Explores the nodes, from the start node on, as far as there are nodes.
+    pub(crate) fn explore(&mut self, source: &Source) -> Result<(), Reason>
+        requires { ModelAsked (kept_of source.now) × Located source.now.index.now.locations (fronts_of self.old.nodes self.old.count) × Holds self.old.nodes self.old.count × (self.old.used ≡ 0) × EndsFit self.old.codes self.old.ends }
+        ensures finds { explored_of result self.new ≡ nodes_from (kept_of source.now) 64 0 [] (graph_of self.old) }
+        ensures finishes { OnOk result (Located source.now.index.now.locations (fronts_of self.new.nodes self.new.count) × Finishes self.new.nodes self.new.codes self.new.ends self.new.count) }
+    {
+        for n in 0..64 {
+            if self.count <= n {
+                return Ok(());
+            }
+            self.explore_node(source, n)?;
+            self.ends[n] = self.used;
+        }
+        Ok(())
+    }
+
+    // The start node.
+    pub(crate) fn start(&mut self, index: &Index, initial: Zone) -> Result<(), Reason>
+        requires { Holds self.old.nodes 0 × (index.now.start < 16) × Clocks index.now.clocks × (self.old.used ≡ 0) }
+        ensures holds { OnOk result (Holds self.new.nodes self.new.count) }
+        ensures keeps { OnOk result ((self.new.codes ≡ self.old.codes) × (self.new.ends ≡ self.old.ends) × (self.new.used ≡ 0)) }
+        ensures finds { found_of result self.new ≡ start_graph index.now initial }
+    {
+        let front = fronts::front_of(index.start, index.clocks, initial);
+        let placed = nodes::place(&mut self.nodes, 0, &front)?;
+        self.count = placed.count;
+        Ok(())
     }
 }

@@ -1,22 +1,12 @@
 // The front words of a node: the word of its location, and those of its bounds.
-ghost use Rattle.std.specs.Prelude.{◌≡◌, ◌<◌, T};
+ghost use Rattle.std.specs.Prelude.{◌≡◌, ◌<◌, T, Some};
 ghost use Rattle.drafting.specs.Words.{bound_word};
 ghost use Rattle.draft.specs.Fronts.{Clocks, narrow_bound?, bound_at, zone_from, collected, FrontOf};
 ghost use Rattle.drafting.specs.Bounding.{pairs, empty_zone};
 
+use crate::front::{FRONT_WORDS, Front};
 use zone::bounds::Bound;
 use zone::zones::Zone;
-
-// How many words there is room for: one for the location, and one for each cell of a zone's table.
-pub(crate) const FRONT_WORDS: usize = 26;
-
-// The front words of a node, so many as `size`. Not narrow: a bound lies beyond 4,095 either way, and the words say nothing.
-#[derive(Clone, Copy)]
-pub(crate) struct Front {
-    pub narrow: bool,
-    pub size: usize,
-    pub list: [u32; 26],
-}
 
 // Whether the d of a bound is at most 4,095 either way.
 pub(crate) fn is_narrow(bound: Bound) -> bool
@@ -39,20 +29,17 @@ pub(crate) fn bound_word(i: usize, j: usize, bound: Bound) -> u32
 // The front words of an empty zone: its one bound is that of the word 51000FFF.
 pub(crate) fn empty_front(location: u32) -> Front
     requires { location < 16 }
-    ensures { FrontOf result location empty_zone }
+    ensures { FrontOf (Some result) location empty_zone }
 {
     let mut list = [0u32; FRONT_WORDS];
     list[0] = 0x8000_0000 + location * 0x100_0000;
     list[1] = 0x5100_0FFF;
-    Front {
-        narrow: true,
-        size: 2,
-        list,
-    }
+    Front { size: 2, list }
 }
 
-// The front words of a tightened zone that is not empty: its finite bounds, for i other than j, by i, then j.
-pub(crate) fn filled_front(location: u32, clocks: u32, zone: Zone) -> Front
+// The front words of a tightened zone that is not empty: its finite bounds, for i other than j, by i, then j. There are none where a bound lies beyond
+// 4,095 either way.
+pub(crate) fn filled_front(location: u32, clocks: u32, zone: Zone) -> Option<Front>
     requires { (location < 16) × Clocks clocks }
     ensures { FrontOf result location (collected zone (pairs clocks)) }
 {
@@ -67,30 +54,22 @@ pub(crate) fn filled_front(location: u32, clocks: u32, zone: Zone) -> Front
         let finite = bound.key < Bound::FINITE_BELOW;
         if (i <= last) & (j <= last) & (i != j) & finite {
             if !is_narrow(bound) {
-                return Front {
-                    narrow: false,
-                    size: 0,
-                    list,
-                };
+                return None;
             }
             list[size] = bound_word(i, j, bound);
             size += 1;
         }
     }
-    Front {
-        narrow: true,
-        size,
-        list,
-    }
+    Some(Front { size, list })
 }
 
-// The front words of a tightened zone.
-pub(crate) fn front_of(location: u32, clocks: u32, zone: Zone) -> Front
+// The front words of a tightened zone, unless a bound lies beyond 4,095 either way.
+pub(crate) fn front_of(location: u32, clocks: u32, zone: Zone) -> Option<Front>
     requires { (location < 16) × Clocks clocks }
     ensures { FrontOf result location (zone_from clocks zone) }
 {
     if zone.is_empty() {
-        return empty_front(location);
+        return Some(empty_front(location));
     }
     filled_front(location, clocks, zone)
 }

@@ -1,14 +1,14 @@
 // The values of a draft, round by round, from the codes of its rows.
-ghost use Rattle.std.specs.Prelude.{◌≡◌, false, ◌+◌, ◌-◌, ◌*◌, ◌≤◌, ◌<◌, max, get_or, length};
+ghost use Rattle.std.specs.Prelude.{◌≡◌, ◌+◌, ◌-◌, ◌*◌, ◌≤◌, ◌<◌, get_or, length};
 ghost use Rattle.drafting.specs.Rounds.{rounded_up};
 ghost use Rattle.drafting.specs.Words.{whole};
 ghost use Rattle.draft.specs.Nodes.{fronts_of, Holds};
-ghost use Rattle.draft.specs.Asked.{weights_from, RoundsAsked, Located, ValuesFit, EndsFit};
+ghost use Rattle.draft.specs.Asked.{weights_from, RoundsAsked, Located, ValuesFit, EndsFit, Rounded};
 ghost use Rattle.draft.specs.Values.{sum_from, largest_from, begin_of, round_below, values_of};
 
+use crate::explore::{Source, ZoneGraph};
 use crate::{explore, nodes};
 use judge::landing;
-use model::index::Index;
 
 // V.
 pub(crate) const WHOLE: u32 = 1_000_000;
@@ -22,13 +22,6 @@ pub(crate) struct Values {
     pub list: [u32; 128],
 }
 
-// The values after a round, and whether one of them has changed in it.
-#[derive(Clone, Copy)]
-pub(crate) struct Rounded {
-    pub values: Values,
-    pub changed: bool,
-}
-
 // A sum over D, rounded up.
 pub(crate) fn rounded_up(sum: u64, denominator: u32) -> u32
     requires { (1 ≤ denominator) × (sum ≤ denominator * whole) }
@@ -36,16 +29,6 @@ pub(crate) fn rounded_up(sum: u64, denominator: u32) -> u32
 {
     let d = denominator as u64;
     ((sum + (d - 1)) / d) as u32
-}
-
-// The larger of two.
-pub(crate) fn larger(x: u32, y: u32) -> u32
-    ensures { result ≡ max x y }
-{
-    if x < y {
-        return y;
-    }
-    x
 }
 
 // The judge's sum of a row: of its edges from `first` up to `end`, whose codes begin at `at`.
@@ -61,37 +44,28 @@ pub(crate) fn row_sum(
     ensures { (result ≡ sum_from edges.now codes.now values.now (end - first) first at) × (result ≤ weights_from edges.now (end - first) first * whole) }
 {
     let mut sum: u64 = 0;
-    let mut code = at;
     for e in first..end {
-        let v = codes[code] as usize % VALUES;
+        let v = codes[at + (e - first)] as usize % VALUES;
         sum += landing::share(edges[e], values[v]);
-        code += 1;
     }
     sum
 }
 
 // The largest, over the rows of a location, of the judge's sum over D, rounded up; 0 without rows that have successors. Their codes begin at `at`.
-pub(crate) fn largest(
-    index: Index,
-    edges: &[u32],
-    codes: &[u8],
-    values: &[u32],
-    l: usize,
-    at: usize,
-) -> u32
-    requires { RoundsAsked index edges.now × (l < index.locations) × (at + 128 ≤ length codes.now) × ValuesFit values.now }
-    ensures { (result ≡ largest_from edges.now codes.now values.now index (get_or index.actions (l + 1) 0 - get_or index.actions l 0) (get_or index.actions l 0) at 0) × (result ≤ whole) }
+pub(crate) fn largest(source: &Source, codes: &[u8], values: &[u32], l: usize, at: usize) -> u32
+    requires { RoundsAsked source.now.index.now source.now.edges.now × (l < source.now.index.now.locations) × (at + 128 ≤ length codes.now) × ValuesFit values.now }
+    ensures { (result ≡ largest_from source.now.edges.now codes.now values.now source.now.index.now (get_or source.now.index.now.actions (l + 1) 0 - get_or source.now.index.now.actions l 0) (get_or source.now.index.now.actions l 0) at 0) × (result ≤ whole) }
 {
     let mut best: u32 = 0;
     let mut code = at;
-    for a in index.actions[l] as usize..index.actions[l + 1] as usize {
+    for a in source.index.actions[l] as usize..source.index.actions[l + 1] as usize {
         if codes[code] == explore::BLOCKED {
             code += 1;
         } else {
-            let first = index.edges[a] as usize;
-            let end = index.edges[a + 1] as usize;
-            let sum = row_sum(edges, codes, values, first, end, code);
-            best = larger(best, rounded_up(sum, index.denominator));
+            let first = source.index.edges[a] as usize;
+            let end = source.index.edges[a + 1] as usize;
+            let sum = row_sum(source.edges, codes, values, first, end, code);
+            best = best.max(rounded_up(sum, source.index.denominator));
             code += end - first;
         }
     }
@@ -99,6 +73,7 @@ pub(crate) fn largest(
 }
 
 // Where the codes of a node begin.
+#[tactic(auto, using(crate::proofs::RoundCode::begin_later), unfolding(crate::specs::Values::begin_of))]
 pub(crate) fn begin_of(ends: &[usize], n: usize) -> usize
     requires { n ≤ length ends.now }
     ensures { result ≡ begin_of ends.now n }
@@ -109,59 +84,41 @@ pub(crate) fn begin_of(ends: &[usize], n: usize) -> usize
     ends[n - 1]
 }
 
-// A round: the values of all nodes but targets are replaced together.
-pub(crate) fn round(
-    index: Index,
-    edges: &[u32],
-    nodes: &[u32],
-    codes: &[u8],
-    ends: &[usize],
-    count: usize,
-    values: Values,
-) -> Rounded
-    requires { RoundsAsked index edges.now × Holds nodes.now count × Located index.locations (fronts_of nodes.now count) × EndsFit codes.now ends.now × ValuesFit values.list }
-    ensures { (result.values.list ≡ round_below index edges.now nodes.now codes.now ends.now count values.list) × ValuesFit result.values.list × ((result.changed ≡ false) → result.values.list ≡ values.list) }
+// A round: the values of all nodes but targets are replaced together. There are none where it changes no value.
+pub(crate) fn round(source: &Source, graph: &ZoneGraph, values: &Values) -> Option<Values>
+    requires { RoundsAsked source.now.index.now source.now.edges.now × Holds graph.now.nodes graph.now.count × Located source.now.index.now.locations (fronts_of graph.now.nodes graph.now.count) × EndsFit graph.now.codes graph.now.ends × ValuesFit values.now.list }
+    ensures { Rounded result values.now.list (round_below source.now.index.now source.now.edges.now graph.now.nodes graph.now.codes graph.now.ends graph.now.count values.now.list) }
 {
-    let old = values.list;
+    let old = &values.list;
     let mut list = values.list;
     let mut changed = false;
-    for n in 0..count {
-        let l = nodes::location_at(nodes, n) as usize;
-        if !index.targets[l] {
-            let at = begin_of(ends, n);
-            let v = largest(index, edges, codes, &old, l, at);
+    for n in 0..graph.count {
+        let l = nodes::location_at(&graph.nodes, n) as usize;
+        if !source.index.targets[l] {
+            let at = begin_of(&graph.ends, n);
+            let v = largest(source, &graph.codes, old, l, at);
             if v != old[n] {
                 list[n] = v;
                 changed = true;
             }
         }
     }
-    let values = Values { list };
-    Rounded { values, changed }
+    if changed { Some(Values { list }) } else { None }
 }
 
 // The values after so many rounds; every one begins at V. Behind a round that changes none, no later one does.
-pub(crate) fn values_after(
-    index: Index,
-    edges: &[u32],
-    nodes: &[u32],
-    codes: &[u8],
-    ends: &[usize],
-    count: usize,
-    rounds: u64,
-) -> Values
-    requires { RoundsAsked index edges.now × Holds nodes.now count × Located index.locations (fronts_of nodes.now count) × EndsFit codes.now ends.now }
-    ensures { (result.list ≡ values_of index edges.now nodes.now codes.now ends.now count rounds) × ValuesFit result.list }
+pub(crate) fn values_after(source: &Source, graph: &ZoneGraph, rounds: u64) -> Values
+    requires { RoundsAsked source.now.index.now source.now.edges.now × Holds graph.now.nodes graph.now.count × Located source.now.index.now.locations (fronts_of graph.now.nodes graph.now.count) × EndsFit graph.now.codes graph.now.ends }
+    ensures { (result.list ≡ values_of source.now.index.now source.now.edges.now graph.now.nodes graph.now.codes graph.now.ends graph.now.count rounds) × ValuesFit result.list }
 {
     let mut values = Values {
         list: [WHOLE; VALUES],
     };
     for _n in 0..rounds {
-        let next = round(index, edges, nodes, codes, ends, count, values);
-        values = next.values;
-        if !next.changed {
+        let Some(next) = round(source, graph, &values) else {
             return values;
-        }
+        };
+        values = next;
     }
     values
 }

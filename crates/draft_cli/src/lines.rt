@@ -1,46 +1,43 @@
 // Words as lines of text: eight hex digits each, in capitals.
-ghost use Rattle.std.specs.Prelude.{◌≡◌, ◌+◌, ◌*◌, ◌<◌, ◌≤◌, ◌++◌, length, take};
-ghost use Rattle.std.specs.Counts.{IsPrefixLen};
-ghost use Rattle.draft_cli.specs.Text.{hex_digit, word_line, lines_of};
+ghost use Rattle.std.specs.Prelude.{◌≡◌, ◌<◌, ◌≤◌, length, take, map};
+ghost use Rattle.draft_cli.specs.Text.{hex_digit, word_line};
 
-// The digit of a number below 16.
+/// The digit of a number below 16.
 pub(crate) fn hex_digit(d: u32) -> u8
     requires { d < 16 }
     ensures { result ≡ hex_digit d }
 {
     if d < 10 {
-        return 48 + d as u8;
+        b'0' + d as u8
+    } else {
+        b'A' + (d - 10) as u8
     }
-    55 + d as u8
 }
 
-// Puts the line of a word into a text, from a place on.
-pub(crate) fn put_line(text: &mut [u8], at: usize, word: u32)
-    requires { at + 9 ≤ length text.old }
-    ensures { take (at + 9) text.new ≡ take at text.old ++ word_line word }
+/// The line of a word.
+// kept: no plainer, since a line is an array of nine bytes, so that all lines are written at once; a formatter would fill a text to be copied into it
+pub(crate) fn word_line(word: u32) -> [u8; 9]
+    ensures { result ≡ word_line word }
 {
-    text[at] = hex_digit(word / 0x10000000);
-    text[at + 1] = hex_digit(word / 0x1000000 % 16);
-    text[at + 2] = hex_digit(word / 0x100000 % 16);
-    text[at + 3] = hex_digit(word / 0x10000 % 16);
-    text[at + 4] = hex_digit(word / 0x1000 % 16);
-    text[at + 5] = hex_digit(word / 0x100 % 16);
-    text[at + 6] = hex_digit(word / 0x10 % 16);
-    text[at + 7] = hex_digit(word % 16);
-    text[at + 8] = 10;
+    [
+        hex_digit(word / 0x1000_0000),
+        hex_digit(word / 0x100_0000 % 16),
+        hex_digit(word / 0x10_0000 % 16),
+        hex_digit(word / 0x1_0000 % 16),
+        hex_digit(word / 0x1000 % 16),
+        hex_digit(word / 0x100 % 16),
+        hex_digit(word / 0x10 % 16),
+        hex_digit(word % 16),
+        b'\n',
+    ]
 }
 
-// Puts the lines of the first so many words into a text, and says how many bytes they are.
-pub(crate) fn to_lines(words: &[u32], count: usize, text: &mut [u8]) -> usize
-    requires { length words.now * 9 ≤ length text.old }
-    ensures puts { take result text.new ≡ lines_of (take count words.now) }
-    ensures counts { IsPrefixLen result text.new }
+/// Puts the lines of words into the first cells of a slice.
+pub(crate) fn to_lines(words: &[u32], lines: &mut [[u8; 9]])
+    requires { length words.now ≤ length lines.old }
+    ensures { take (length words.now) lines.new ≡ map word_line words.now }
 {
-    for k in 0..words.len() {
-        if k == count {
-            return k * 9;
-        }
-        put_line(text, k * 9, words[k]);
+    for (k, word) in words.iter().enumerate() {
+        lines[k] = word_line(*word);
     }
-    words.len() * 9
 }

@@ -8,8 +8,8 @@ use native.Mathlib.Omega.{arith}
 use lib.Dec.{leb}
 use lib.ListN.{get_or, length, take, drop, replicate, length-replicate, get_or-replicate}
 use lib.Seq.{take-append_seam}
-use Rattle.zone.specs.Checks.{Answer, refused, accepted, test}
-use Rattle.zone.proofs.CheckLaws.{first-all, first_holds}
+use Rattle.answers.specs.Checks.{Answer, refused, accepted, test}
+use Rattle.answers.proofs.CheckLaws.{first-all, first_holds}
 use Rattle.model.specs.Model.{Model, model_of}
 use Rattle.model.specs.Reading.{model_checks, counts_of, ReadModel}
 use Rattle.model.specs.declared.read.Counts.{Counts}

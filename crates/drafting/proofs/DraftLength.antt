@@ -3,20 +3,16 @@ use Prim.Native.Nat.{ℕ, zero, suc, ◌*◌, ◌≤◌, ◌<◌, zero-le}
 use mathlib.Core.Path.{◌≡◌, sym, ◌∙◌}
 use mathlib.Core.Logic.{inl, inr}
 use mathlib.Core.Bool.{Bool, true, false, cond}
-use mathlib.Core.List.{List, [], ◌∷◌, map}
+use mathlib.Core.List.{List, [], ◌∷◌, ◌++◌, map}
 use native.Mathlib.Omega.{arith}
 use lib.Dec.{le→leb}
 use lib.ListN.{get_or, length, length-append, length-map}
 use Rattle.zone.specs.Scale.{Zone, Region}
-use Rattle.zone.specs.Checks.{refused, accepted}
-use Rattle.zone.proofs.CheckLaws.{first_one}
+use Rattle.answers.specs.Checks.{refused, accepted, Check, First}
 use Rattle.model.specs.Model.{Edge, Action, Model, model_of}
 use Rattle.model.specs.States.{location_at}
-use Rattle.model.specs.Reading.{model_checks, counts_of, ReadModel, model_answer}
+use Rattle.model.specs.Reading.{word_checks, words_checks, edge_checks, model_checks, counts_of, ReadModel}
 use Rattle.model.specs.declared.read.Counts.{Counts}
-use Rattle.model.specs.declared.read.ModelAnswer.{ModelAnswer}
-use Rattle.model.specs.declared.read.ModelAnswer.TheVariants as answer
-use Rattle.model.proofs.Answering.{answered}
 use Rattle.model.proofs.Entries.{no_words, no_keys, zeros-fit}
 use Rattle.model.proofs.IndexLaws.{location-at}
 use Rattle.model.proofs.Indexing.{indexed}
@@ -153,21 +149,36 @@ draft-few {model} d =
     rw g.wrote.2 (words-few model (counts_of model) g.reads g.progress g.explores g.wrote.0)
 
 -- ---- the refusals before the end have other numbers: 1 to 6 of the model
-answer-number : (a : ModelAnswer) (n p : ℕ) → model_answer a ≡ refused n p → n ≤ 6
-unfolding model_answer
-answer-number (answer.Accepted counts) n p e = let z : ◌≡◌ {A = ℕ} 0 1 = cc e in absurd (omega arith)
-answer-number (answer.BadModelKind q) n p e = let z : 1 ≡ n = cc e in omega arith
-answer-number (answer.BadModelField q) n p e = let z : 2 ≡ n = cc e in omega arith
-answer-number (answer.OverModelLimit q) n p e = let z : 3 ≡ n = cc e in omega arith
-answer-number (answer.BadWeights q) n p e = let z : 4 ≡ n = cc e in omega arith
-answer-number (answer.NoLocation q) n p e = let z : 5 ≡ n = cc e in omega arith
-answer-number (answer.NoStart q) n p e = let z : 6 ≡ n = cc e in omega arith
+
+-- checks with those numbers
+abbrev Low : List Check → Type 0
+Low [] = Unit {0}
+Low (c ∷ cs) = (c.number ≤ 6) × Low cs
+
+low-join : (cs ds : List Check) → Low cs → Low ds → Low (cs ++ ds)
+low-join [] ds g h = h
+low-join (c ∷ cs) ds g h = (g.0, low-join cs ds g.1 h)
+
+low-words : (C D : ℕ) (before words : List ℕ) → Low (words_checks C D before words)
+unfolding words_checks word_checks
+low-words C D before [] = (omega arith, tt)
+low-words C D before (w ∷ ws) = (omega arith, (omega arith, (omega arith, (omega arith, low-words C D (w ∷ before) ws))))
+
+low-edges : (L p : ℕ) (words : List ℕ) → Low (edge_checks L p words)
+unfolding edge_checks
+low-edges L p [] = tt
+low-edges L p (w ∷ ws) = (omega arith, low-edges L (suc p) ws)
+
+first-low : (cs : List Check) (P : Counts → Type 0) (n p : ℕ) → Low cs → First cs P (refused n p) → n ≤ 6
+first-low [] P n p l x = absurd x
+first-low (c ∷ cs) P n p l (inl x) = first-low cs P n p l.1 x.1
+first-low (c ∷ cs) P n p l (inr x) = let same : n ≡ c.number = cc x.1 in let few = l.0 in omega arith
 
 reading-number : (model : List ℕ) (n p : ℕ) → ReadModel model (refused n p) → n ≤ 6
+unfolding model_checks
 reading-number model n p h =
-    let right = answered model no_words no_keys zeros-fit in
-    answer-number _ n p
-    (first_one (model_checks model) (λ counts. counts ≡ counts_of model) (λ x y e f. e ∙ sym f) _ (refused n p) right.says h.says)
+    first-low (model_checks model) (λ counts. counts ≡ counts_of model) n p
+    (low-join _ _ (low-words _ _ [] model) (low-join _ _ (low-edges _ 0 model) (omega arith, tt))) h.says
 
 -- 58 and 59 of exploring
 abbrev Numbers : {A : Type 0} → Explores A → Type 0

@@ -5,7 +5,7 @@ use mathlib.Core.List.{List, [], ◌∷◌}
 use native.Mathlib.Nat as N
 use native.Mathlib.Omega.{arith}
 use lib.ListN.{get_or, length}
-use Rattle.zone.proofs.CheckLaws.{AllHold}
+use Rattle.answers.proofs.CheckLaws.{AllHold}
 use Rattle.model.specs.Model.{Edge, Action, Model}
 use Rattle.model.specs.States.{location_at}
 use Rattle.model.proofs.ZoneLaws.{All, empty, more}

@@ -12,9 +12,9 @@ use lib.ListN.{get_or, length, drop, length-append, get_or-append, drop_of_lengt
 use lib.Seq.{drop-cons, get_or-append_seam}
 use Rattle.zone.specs.Scale.{Zone, Region, within, Empty, Inside}
 use Rattle.zone.specs.Words.{bound_of}
-use Rattle.zone.specs.Checks.{Answer, refused, accepted, First}
+use Rattle.answers.specs.Checks.{Answer, refused, accepted, First}
 use Rattle.zone.proofs.Bools.{both}
-use Rattle.zone.proofs.CheckLaws.{first_holds}
+use Rattle.answers.proofs.CheckLaws.{first_holds}
 use Rattle.model.specs.Model.{Edge, Action, Model}
 use Rattle.model.specs.States.{location_at}
 use Rattle.model.proofs.ZoneLaws.{All, empty, more}

@@ -8,7 +8,7 @@ use mathlib.Core.List.{List, [], ◌∷◌}
 use native.Mathlib.Omega.{arith}
 use lib.ListN.{get_or, length}
 use Rattle.zone.specs.Scale.{Zone}
-use Rattle.zone.specs.Checks.{accepted}
+use Rattle.answers.specs.Checks.{accepted}
 use Rattle.model.specs.Model.{Edge, Action, Location, Model, model_of}
 use Rattle.model.specs.States.{location_at}
 use Rattle.model.specs.Reading.{ReadModel}

@@ -8,9 +8,9 @@ use native.Mathlib.Omega.{arith}
 use lib.Dec.{T, leb}
 use lib.ListN.{get_or, length, replicate}
 use Rattle.zone.specs.Scale.{Zone, within}
-use Rattle.zone.specs.Checks.{Answer, refused, accepted, Check, test, First}
+use Rattle.answers.specs.Checks.{Answer, refused, accepted, Check, test, First}
 use Rattle.zone.proofs.Integers.{lt-or-ge}
-use Rattle.zone.proofs.CheckLaws.{first_one, same_refusal}
+use Rattle.answers.proofs.CheckLaws.{first_one, same_refusal}
 use Rattle.model.specs.Model.{Edge, Action, Model, model_of}
 use Rattle.model.specs.States.{location_at}
 use Rattle.model.specs.Reading.{model_checks, counts_of, ReadModel}

@@ -11,7 +11,7 @@ use lib.ListN.{length}
 use Rattle.zone.specs.Scale.{Zone}
 use Rattle.zone.specs.Words.{bits, kind, bound_fields?, good_bound?}
 use Rattle.zone.proofs.Bools.{and, right_true}
-use Rattle.zone.proofs.CheckLaws.{AllHold, all_join}
+use Rattle.answers.proofs.CheckLaws.{AllHold, all_join}
 use Rattle.model.specs.TableKinds.{TableKind, table_head, node, node_bound, value, blocked, successor, start_node}
 use Rattle.model.specs.TableKinds.{table_number, is_table, table_kind_of}
 use Rattle.model.specs.Before.{opener_from, count_of}

@@ -1,6 +1,6 @@
 -- Document 02, card 5: a table drafted for a model into lent words, with the model's own refusals and 58 to 60. Assumes nothing.
 use Rattle.std.specs.Prelude.{ℕ, min, ◌≡◌, List, [], ◌∷◌, ◌++◌, leb, length, take, drop, replicate}
-use Rattle.zone.specs.Checks.{Answer, refused, accepted, test, First}
+use Rattle.answers.specs.Checks.{Answer, refused, accepted, test, First}
 use Rattle.model.specs.Model.{Model, model_of}
 use Rattle.model.specs.Reading.{ReadModel}
 use Rattle.acceptance.specs.Schedulers.{BoundsEvery}

@@ -1,7 +1,7 @@
 -- Document 02, card 5: exploring forward from the start zone. What is found goes in, and comes out with more; 58 and 59 end it. Assumes nothing.
 use Rattle.std.specs.Prelude.{ℕ, zero, suc, ◌≤◌, ◌<◌, ◌≡◌, ◌⊎◌, Bool, true, ◌&&◌, List, [], ◌∷◌, ◌++◌, leb, ltb, nat_abs, get_or, length}
 use Rattle.zone.specs.Scale.{Zone, within, Empty}
-use Rattle.zone.specs.Checks.{Answer, refused, accepted, Check, test, First}
+use Rattle.answers.specs.Checks.{Answer, refused, accepted, Check, test, First}
 use Rattle.model.specs.Model.{Edge, Action, Model}
 use Rattle.model.specs.States.{location_at}
 use Rattle.table.specs.Table.{rows_body, Node, row_actions}

@@ -1,46 +1,26 @@
 // The whole of an input, for the programs.
 #![tactic(auto)]
 
-ghost use Rattle.std.specs.Prelude.{◌≡◌, ◌<◌, false, length, take};
-ghost use Rattle.std.specs.Io.KnownBytes.{Consumes, IsAtEnd};
-ghost use Rattle.std.specs.Counts.{IsPrefixLen};
+ghost use Rattle.std.specs.Prelude.{ℕ, ◌<◌, length, IfOk, MatchResult};
+ghost use Rattle.std.specs.Io.KnownBytes.{IsAtEnd};
+ghost use Rattle.input.specs.Reading.{Took};
 
+use std::io;
 use std::io::Read;
 
-// How many bytes were read, and whether a read failed. If none did, the input has ended or fills the buffer.
-#[derive(Clone, Copy)]
-pub struct Input {
-    pub count: usize,
-    pub failed: bool,
-}
-
-// Reads until the buffer is full, the input ends or a read fails. std's `read_to_end` reads again where a read was interrupted, and what came before a
-// failed read is not the input.
-pub fn read_input<R: Read>(reader: &mut R, bytes: &mut [u8]) -> Input
-    ensures counts { IsPrefixLen result.count bytes.new }
-    ensures reads { Consumes (R.remaining reader.old) (R.remaining reader.new) (take result.count bytes.new) }
-    ensures ends { result.failed ≡ false → result.count < length bytes.new → IsAtEnd (R.remaining reader.new) }
+/// Reads until the buffer is full, the input ends or a read fails, and says how many bytes were read. std's `read_to_end` reads again where a read was
+/// interrupted, and what came before a failed read is not the input.
+pub fn read_input<R: Read>(reader: &mut R, bytes: &mut [u8]) -> io::Result<usize>
+    ensures reads { MatchResult result (Took (R.remaining reader.old) (R.remaining reader.new) bytes.new) (λ _. (count : ℕ) × Took (R.remaining reader.old) (R.remaining reader.new) bytes.new count) }
+    ensures ends { IfOk result (λ count. count < length bytes.new → IsAtEnd (R.remaining reader.new)) }
 {
     let mut count = 0;
+    // kept: no index over a list, since each read says how far it came
     while count < bytes.len() {
-        match reader.read(&mut bytes[count..]) {
-            Ok(0) => {
-                return Input {
-                    count,
-                    failed: false,
-                };
-            }
-            Ok(more) => count += more,
-            Err(_) => {
-                return Input {
-                    count,
-                    failed: true,
-                };
-            }
+        match reader.read(&mut bytes[count..])? {
+            0 => break,
+            more => count += more,
         }
     }
-    Input {
-        count,
-        failed: false,
-    }
+    Ok(count)
 }

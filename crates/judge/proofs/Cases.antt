@@ -7,39 +7,36 @@ use mathlib.Core.List.{List, [], ◌∷◌, ◌++◌}
 use lib.ListN.{set, take, drop}
 use Rattle.zone.specs.Moves.{masked?}
 use Rattle.zone.specs.Words.{bound_of, bound_fields?}
-use Rattle.zone.specs.Checks.{Answer, refused, accepted}
+use Rattle.answers.specs.Checks.{Answer, refused, accepted}
+use Rattle.answers.specs.Refusals.{number, answer_of}
 use Rattle.zone.specs.Questions.{AskedEmpty, AskedInside}
 use Rattle.zone.specs.Cells.{tighter?, tighter_of, sum, negated, negative?}
 use Rattle.zone.specs.Squares.{list_of, with_bound, passed_below, source, all?, empty?, inside?}
 use Rattle.zone.specs.Reading.{with_word}
 use Rattle.zone.specs.Parts.{holding_square, rest_square}
-use Rattle.zone.specs.Stores.{zone_at, put_below, put_at, with_word_at}
 use Rattle.zone.proofs.Cases.{zone-cases}
 use Rattle.model.specs.Kinds.{among, kind_of}
 use Rattle.model.specs.TableKinds.{table_kind_of}
 use Rattle.model.specs.Grammar.{follows, table_follows, numbered?, may_follow?, follows?, table_follows?}
 use Rattle.model.specs.Fields.{fields?}
 use Rattle.model.specs.Reading.{limit?, adds?}
-use Rattle.model.specs.Scan.{fields_at?, limit_at?, adds_at?, fault_at, last_fault, seen_with_kind, seen_with}
-use Rattle.model.specs.Index.{kept_with_kind, kept_with, closed, unless_fault, scan_from, scanned}
-use Rattle.model.specs.Index.{first_missing, missing_of, start_square, whole_answer, fault_answer}
-use Rattle.model.proofs.Checking.{answer_of}
+use Rattle.model.specs.Scan.{fields_at?, limit_at?, adds_at?, checked, checked_end, seen_with_kind, seen_with}
+use Rattle.model.specs.Index.{kept_with_kind, kept_with, closed, unless_refused, pass_end, scan_from, scanned}
+use Rattle.model.specs.Index.{first_missing, missing_of, start_square, whole_read, read_behind}
 use Rattle.table.specs.Fields as fields
 use Rattle.table.specs.Reading as reading
 use Rattle.table.specs.Scan as scan
-use Rattle.table.specs.Nodes.{entry_at, put_entry}
 use Rattle.table.specs.Index as index
 use Rattle.acceptance.specs.Judging.{Judged}
-use Rattle.judge.specs.Verdicts.{verdict_answer}
 use Rattle.judge.specs.Reaching.{common, waited_square, contained_below}
-use Rattle.judge.specs.Landing.{added, failed, landings_outcome, successor_outcome}
-use Rattle.judge.specs.Findings.{or_else}
-use Rattle.judge.specs.Cutting.{part_finding, cut_finding}
-use Rattle.judge.specs.Walk.{successors_from, rows_from, rows_finding, node_finding, nodes_from, walked}
+use Rattle.judge.specs.Landing.{landings_share, successor_share}
+use Rattle.judge.specs.Steps.{and_then}
+use Rattle.judge.specs.Cutting.{part_checked, cut_checked}
+use Rattle.judge.specs.Walk.{successors_from, rows_from, rows_checked, node_checked, nodes_from}
 use Rattle.judge.specs.Deciding.{start_verdict}
 use Rattle.acceptance.specs.declared.certificate.Certificate.{Certificate}
 use Rattle.acceptance.proofs.CountLaws.{timeline, closing}
-use Rattle.judge.proofs.Computing.{behind_model, behind_words, behind_nodes, judged, judged_behind, judged_from, computed, computes}
+use Rattle.judge.proofs.Computing.{judged, judged_behind, judged_from, computed, computes}
 
 -- T; M is `timeline`
 abbrev table : List ℕ
@@ -78,36 +75,36 @@ abbrev accepts_whole : Answer Certificate
 accepts_whole = accepted (record { b = 10; whole = 10; nodes = 3 })
 
 answers :
-    (verdict_answer (computed timeline table) ≡ accepts) ×
-    (verdict_answer (computed timeline (set table 3 0x90000000)) ≡ refused 19 4) ×
-    (verdict_answer (computed timeline (set table 9 0x90000009)) ≡ refused 15 9) ×
-    (verdict_answer (computed timeline blocked_table) ≡ refused 16 4) ×
-    (verdict_answer (computed above blocked_table) ≡ accepts) ×
-    (verdict_answer (computed (set timeline 6 0x40020002) table) ≡ refused 4 7) ×
-    (verdict_answer (computed timeline (bounded_table 0x51001002)) ≡ refused 18 4) ×
-    (verdict_answer (computed timeline (bounded_table 0x51001003)) ≡ accepts) ×
-    (verdict_answer (computed timeline cut_table) ≡ accepts_cut) ×
-    (verdict_answer (computed timeline (set cut_table 5 0xB0000000)) ≡ refused 51 5) ×
-    (verdict_answer (computed timeline (set cut_table 8 0x90000002)) ≡ refused 52 4) ×
-    (verdict_answer (computed timeline (set (set cut_table 4 0xB0000002) 5 0xB0000001)) ≡ refused 53 5) ×
-    (verdict_answer (computed timeline (set cut_table 7 0x51081001)) ≡ refused 53 4) ×
-    (verdict_answer (computed timeline (set cut_table 3 0xD0101001)) ≡ refused 12 3) ×
-    (verdict_answer (computed timeline (set cut_table 5 0xA0000000)) ≡ refused 11 5) ×
-    (verdict_answer (computed closing table) ≡ refused 19 4) ×
-    (verdict_answer (computed closing (set table 3 0x9000000A)) ≡ accepts_whole) ×
-    (verdict_answer (computed closing (set (bounded_table 0x51001002) 3 0x9000000A)) ≡ accepts_whole) ×
-    (verdict_answer (computed closing (set (bounded_table 0x51081002) 3 0x9000000A)) ≡ refused 18 4) ×
-    (verdict_answer (computed (set closing 8 0x51001001) blocked_table) ≡ refused 16 4)
+    (answer_of (computed timeline table) ≡ accepts) ×
+    (answer_of (computed timeline (set table 3 0x90000000)) ≡ refused 19 4) ×
+    (answer_of (computed timeline (set table 9 0x90000009)) ≡ refused 15 9) ×
+    (answer_of (computed timeline blocked_table) ≡ refused 16 4) ×
+    (answer_of (computed above blocked_table) ≡ accepts) ×
+    (answer_of (computed (set timeline 6 0x40020002) table) ≡ refused 4 7) ×
+    (answer_of (computed timeline (bounded_table 0x51001002)) ≡ refused 18 4) ×
+    (answer_of (computed timeline (bounded_table 0x51001003)) ≡ accepts) ×
+    (answer_of (computed timeline cut_table) ≡ accepts_cut) ×
+    (answer_of (computed timeline (set cut_table 5 0xB0000000)) ≡ refused 51 5) ×
+    (answer_of (computed timeline (set cut_table 8 0x90000002)) ≡ refused 52 4) ×
+    (answer_of (computed timeline (set (set cut_table 4 0xB0000002) 5 0xB0000001)) ≡ refused 53 5) ×
+    (answer_of (computed timeline (set cut_table 7 0x51081001)) ≡ refused 53 4) ×
+    (answer_of (computed timeline (set cut_table 3 0xD0101001)) ≡ refused 12 3) ×
+    (answer_of (computed timeline (set cut_table 5 0xA0000000)) ≡ refused 11 5) ×
+    (answer_of (computed closing table) ≡ refused 19 4) ×
+    (answer_of (computed closing (set table 3 0x9000000A)) ≡ accepts_whole) ×
+    (answer_of (computed closing (set (bounded_table 0x51001002) 3 0x9000000A)) ≡ accepts_whole) ×
+    (answer_of (computed closing (set (bounded_table 0x51081002) 3 0x9000000A)) ≡ refused 18 4) ×
+    (answer_of (computed (set closing 8 0x51001001) blocked_table) ≡ refused 16 4)
 unfolding
-    masked? bound_of bound_fields? tighter? tighter_of sum negative? list_of with_bound passed_below source all? empty? inside? zone_at put_below
-    put_at with_word_at among kind_of table_kind_of follows table_follows numbered? may_follow? follows? table_follows? fields? limit? adds? fields_at? limit_at?
-    adds_at? fault_at last_fault seen_with_kind seen_with kept_with_kind kept_with closed unless_fault scan_from scanned first_missing missing_of start_square
-    whole_answer fault_answer answer_of fields.fields? reading.limit? scan.rows_allow_kind? scan.rows_allow_at? scan.fields_at? scan.limit_at? scan.fault_at
-    scan.last_fault scan.first_row scan.end_row scan.rows_at scan.edges_at scan.row_size scan.size_at scan.seen_with_kind scan.seen_with entry_at put_entry
-    index.kept_with_kind index.kept_with index.unless_fault index.scan_from index.scanned index.numbers_answer index.answer_of common waited_square
-    contained_below added failed landings_outcome successor_outcome or_else successors_from rows_from rows_finding negated with_word
-    holding_square rest_square part_finding cut_finding node_finding nodes_from walked start_verdict verdict_answer behind_model
-    behind_words behind_nodes judged judged_behind judged_from computed
+    masked? bound_of bound_fields? tighter? tighter_of sum negative? list_of with_bound passed_below source all? empty? inside?
+    among kind_of table_kind_of follows table_follows numbered? may_follow? follows? table_follows? fields? limit? adds? fields_at? limit_at?
+    adds_at? checked checked_end seen_with_kind seen_with kept_with_kind kept_with closed unless_refused pass_end scan_from scanned first_missing missing_of start_square
+    whole_read read_behind fields.fields? reading.limit? scan.rows_allow_kind? scan.rows_allow_at? scan.fields_at? scan.limit_at? scan.checked
+    scan.checked_end scan.first_row scan.end_row scan.rows_at scan.edges_at scan.row_size scan.size_at scan.seen_with_kind scan.seen_with
+    index.kept_with_kind index.kept_with index.unless_refused index.scan_from index.scanned index.unless_missing index.read_of common waited_square
+    contained_below landings_share successor_share and_then successors_from rows_from rows_checked negated with_word
+    holding_square rest_square part_checked cut_checked node_checked nodes_from start_verdict answer_of number
+    judged judged_behind judged_from computed
 answers = (
   refl,
   refl,
@@ -132,7 +129,7 @@ answers = (
 )
 
 -- what is computed is the answer
-answered : (words list : List ℕ) (a : Answer Certificate) → verdict_answer (computed words list) ≡ a → Judged words list a
+answered : (words list : List ℕ) (a : Answer Certificate) → answer_of (computed words list) ≡ a → Judged words list a
 answered words list a e = subst (Judged words list) e (computes words list)
 
 -- C = 2: clock 1 at most 3, clock 2 - clock 1 at most 2, lies inside clock 2 at most 5; not inside at most 4. Clock above 2 and below 3: not empty

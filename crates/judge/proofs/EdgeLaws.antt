@@ -1,5 +1,6 @@
 -- What an edge with its successor comes to: the walk decides 17 and 18, and what it adds is what the edge has in the sum of 19. Assumes nothing.
 use Prim.Native.Nat.{ℕ, ◌*◌, ◌<◌}
+use Rattle.std.specs.Prelude.{Result, Ok}
 use mathlib.Core.Path.{◌≡◌, refl, ap, ◌∙◌}
 use mathlib.Core.Logic.{inl, inr}
 use mathlib.Core.Bool.{Bool, true, false, cond, ◌&&◌, ◌||◌}
@@ -9,7 +10,10 @@ use borrow.Author.Tests.{eqb-true, eqb-false}
 use lib.Dec.{eqb}
 use lib.ListN.{get_or, length}
 use Rattle.zone.specs.Scale.{Zone, within, Inside}
-use Rattle.zone.specs.Checks.{check}
+use Rattle.answers.specs.Checks.{Check, check}
+use Rattle.answers.specs.Refusals.{number, answer_of}
+use Rattle.answers.specs.declared.Reason.TheVariants as reason
+use Rattle.answers.specs.declared.Refusal.{Refusal}
 use Rattle.zone.specs.Squares.{universe, reset_square, empty?, inside?}
 use Rattle.zone.specs.Stores.{zone_at}
 use Rattle.zone.specs.declared.zones.Zone.{Zone as Square}
@@ -31,11 +35,9 @@ use Rattle.table.proofs.Shape.{Shaped}
 use Rattle.acceptance.specs.Acceptance.{HasLocation, landings, landings_inside, HoldsLandings, CanLandOutside, Worth}
 use Rattle.acceptance.proofs.SumLaws.{inside_cannot}
 use Rattle.judge.specs.Reaching.{common, contained_below}
-use Rattle.judge.specs.Landing.{added, failed, landings_outcome, successor_outcome}
-use Rattle.judge.specs.Findings.{finding_answer}
-use Rattle.judge.specs.declared.findings.Finding.TheVariants as finding
-use Rattle.judge.specs.declared.landing.Outcome.{Outcome}
-use Rattle.judge.proofs.FindingLaws.{Finds, located, outside-zone}
+use Rattle.answers.specs.Refusals.{refuse}
+use Rattle.judge.specs.Landing.{landings_share, successor_share}
+use Rattle.judge.proofs.StepLaws.{Comes}
 use Rattle.judge.proofs.RowLaws.{node_at_lem, shaped-at}
 use Rattle.judge.proofs.LandingLaws.{contained_at}
 use Rattle.judge.proofs.RowReach.{Reached}
@@ -49,10 +51,17 @@ module _ (M : Model) (words : List ℕ) (m : ModelKept) (t : TableRead) (k : Kep
 
   -- ---- the successors of a row
   module _ (N : Node) (A : Action) (reach : Square) (z : Reached M N A reach) where
-    -- what an edge with its successor comes to: the checks 17 and 18 and, where both hold, what it has in the sum
-    pub record Comes (E : Edge) (S : Successor) (o : Outcome) : Type 0 where
-      pub finds : Finds (check 17 S.place (HasLocation W E S) ∷ check 18 S.place (HoldsLandings M W N A E S) ∷ []) o.finding
-      pub adds : o.finding ≡ finding.None → (y : ℕ) × Worth M W N A E S y × (o.share ≡ E.weight * y)
+    -- the checks of an edge with its successor, 17 and 18
+    abbrev pub edge_checks : Edge → Successor → List Check
+    edge_checks E S = check 17 S.place (HasLocation W E S) ∷ check 18 S.place (HoldsLandings M W N A E S) ∷ []
+
+    -- what it has in the sum where both hold
+    abbrev pub Adds : Edge → Successor → ℕ → Type 0
+    Adds E S x = (y : ℕ) × Worth M W N A E S y × (x ≡ E.weight * y)
+
+    -- what it comes to
+    abbrev Lands : Edge → Successor → Result ℕ Refusal → Type 0
+    Lands E S r = Comes (edge_checks E S) (Adds E S) r
 
     -- an edge that lands at a location that exists
     module _ (E : Edge) (f : FormedEdge M E) where
@@ -84,22 +93,22 @@ module _ (M : Model) (words : List ℕ) (m : ModelKept) (t : TableRead) (k : Kep
         abbrev zone_table : Square
         zone_table = with_bounds zone universe
 
-        wrong_location : ((node_at W s).location ≡ E.to → ⊥) → Comes E S (record { finding = finding.WrongLocation p; share = 0 })
-        unfolding finding_answer
-        wrong_location un = record { finds = record { says = inr (un, refl) }; adds = λ f. absurd (located p f) }
+        wrong_location : ((node_at W s).location ≡ E.to → ⊥) → Lands E S (refuse reason.WrongLocation p)
+        unfolding answer_of number
+        wrong_location un = record { says = inr (un, refl) }
 
         module _ (at : (node_at W s).location ≡ E.to) where
           -- both checks hold
-          holds : (y : ℕ) → HoldsLandings M W N A E S → Worth M W N A E S y → Comes E S (record { finding = finding.None; share = E.weight * y })
-          unfolding finding_answer
-          holds y h w = record { finds = record { says = inl (at, inl (h, tt)) }; adds = λ _. (y, w, refl) }
+          holds : (y : ℕ) → HoldsLandings M W N A E S → Worth M W N A E S y → Lands E S (Ok (E.weight * y))
+          unfolding answer_of number
+          holds y h w = record { says = inl (at, inl (h, (y, w, refl))) }
 
           -- 18 does not
-          holds_not : (HoldsLandings M W N A E S → ⊥) → Comes E S (record { finding = finding.NotInside p; share = 0 })
-          unfolding finding_answer
-          holds_not un = record { finds = record { says = inl (at, inr (un, refl)) }; adds = λ f. absurd (outside-zone p f) }
+          holds_not : (HoldsLandings M W N A E S → ⊥) → Lands E S (refuse reason.NotInside p)
+          unfolding answer_of number
+          holds_not un = record { says = inl (at, inr (un, refl)) }
 
-          nothing-lands : empty? reach ≡ true → Comes E S (record { finding = finding.None; share = E.weight * (node_at W s).value })
+          nothing-lands : empty? reach ≡ true → Lands E S (Ok (E.weight * (node_at W s).value))
           unfolding landings_inside
           nothing-lands e =
               holds (node_at W s).value (record { at = λ k k₁ v h. absurd ((z.blocked-pass e).at k k₁ h.0.before h.0.was) })
@@ -108,14 +117,14 @@ module _ (M : Model) (words : List ℕ) (m : ModelKept) (t : TableRead) (k : Kep
           module _ (filled : empty? reach ≡ false) where
             -- every landing is inside
             module _ (all : Inside (landings M N A E) (within invariant)) where
-              inside-held : inside? landed zone_table ≡ true → Comes E S (record { finding = finding.None; share = E.weight * (node_at W s).value })
+              inside-held : inside? landed zone_table ≡ true → Lands E S (Ok (E.weight * (node_at W s).value))
               unfolding landings_inside
               inside-held h =
                   holds (node_at W s).value
                   (record { at = λ k k₁ v r. (z.onward-pass filled E.mask zone good-zone h).at k k₁ v r.0 })
                   (inr (inside_cannot M N A E all, refl))
 
-              inside-not-held : inside? landed zone_table ≡ false → Comes E S (record { finding = finding.NotInside p; share = 0 })
+              inside-not-held : inside? landed zone_table ≡ false → Lands E S (refuse reason.NotInside p)
               unfolding landings_inside
               inside-not-held h = holds_not (λ m.
                   let b = z.onward-fail filled E.mask zone good-zone h in
@@ -134,11 +143,11 @@ module _ (M : Model) (words : List ℕ) (m : ModelKept) (t : TableRead) (k : Kep
               abbrev part : Square
               part = common landed invariant_table
 
-              part_held : (empty? part || inside? part zone_table) ≡ true → Comes E S (record { finding = finding.None; share = E.weight * t.whole })
+              part_held : (empty? part || inside? part zone_table) ≡ true → Lands E S (Ok (E.weight * t.whole))
               unfolding landings_inside
               part_held h = holds t.whole ((z.part filled E.mask invariant good-invariant).pass zone good-zone h) (inl (can, i.whole))
 
-              part-not-held : (empty? part || inside? part zone_table) ≡ false → Comes E S (record { finding = finding.NotInside p; share = 0 })
+              part-not-held : (empty? part || inside? part zone_table) ≡ false → Lands E S (refuse reason.NotInside p)
               unfolding landings_inside
               part-not-held h = holds_not ((z.part filled E.mask invariant good-invariant).fail zone good-zone h)
 
@@ -151,10 +160,10 @@ module _ (M : Model) (words : List ℕ) (m : ModelKept) (t : TableRead) (k : Kep
         -- by whether every landing is inside
         rest : (at : (node_at W s).location ≡ E.to) → empty? reach ≡ false → (h j q : Bool) → inside? landed zone_table ≡ h →
             inside? landed invariant_table ≡ j → (empty? (common landed invariant_table) || inside? (common landed invariant_table) zone_table) ≡ q →
-            Comes E S
+            Lands E S
             (cond j
-            (cond h (record { finding = finding.None; share = E.weight * (node_at W s).value }) (record { finding = finding.NotInside p; share = 0 }))
-            (cond q (record { finding = finding.None; share = E.weight * t.whole }) (record { finding = finding.NotInside p; share = 0 })))
+            (cond h (Ok (E.weight * (node_at W s).value)) (refuse reason.NotInside p))
+            (cond q (Ok (E.weight * t.whole)) (refuse reason.NotInside p)))
         rest at e true true q eh ej eq = inside-held at e (z.onward-pass e E.mask invariant good-invariant ej) eh
         rest at e false true q eh ej eq = inside-not-held at e (z.onward-pass e E.mask invariant good-invariant ej) eh
         rest at e h false true eh ej eq = part_held at e (somewhere good z E e ej) eq
@@ -163,18 +172,18 @@ module _ (M : Model) (words : List ℕ) (m : ModelKept) (t : TableRead) (k : Kep
         by_tests : (at : (node_at W s).location ≡ E.to) → empty? reach ≡ false → (h c j q : Bool) → inside? landed zone_table ≡ h →
             inside? zone_table invariant_table ≡ c → inside? landed invariant_table ≡ j →
             (empty? (common landed invariant_table) || inside? (common landed invariant_table) zone_table) ≡ q →
-            Comes E S
-            (cond (c && h) (record { finding = finding.None; share = E.weight * (node_at W s).value })
+            Lands E S
+            (cond (c && h) (Ok (E.weight * (node_at W s).value))
             (cond j
-            (cond h (record { finding = finding.None; share = E.weight * (node_at W s).value }) (record { finding = finding.NotInside p; share = 0 }))
-            (cond q (record { finding = finding.None; share = E.weight * t.whole }) (record { finding = finding.NotInside p; share = 0 }))))
+            (cond h (Ok (E.weight * (node_at W s).value)) (refuse reason.NotInside p))
+            (cond q (Ok (E.weight * t.whole)) (refuse reason.NotInside p))))
         by_tests at e true true j q eh ec ej eq = inside-held at e (zone-within at e eh ec) eh
         by_tests at e true false j q eh ec ej eq = rest at e true j q eh ej eq
         by_tests at e false true j q eh ec ej eq = rest at e false j q eh ej eq
         by_tests at e false false j q eh ec ej eq = rest at e false j q eh ej eq
 
-        pub comes : (w : ℕ) → edge_of w ≡ E → Comes E S (successor_outcome reach (empty? reach) w m.zones contained t.whole k s p)
-        unfolding successor_outcome landings_outcome added failed
+        pub comes : (w : ℕ) → edge_of w ≡ E → Lands E S (successor_share reach (empty? reach) w m.zones contained t.whole k s p)
+        unfolding successor_share landings_share
         comes w e =
             let to : lands_at w ≡ E.to = ap (λ (E : Edge). E.to) e in
             let mask : mask_of w ≡ E.mask = ap (λ (E : Edge). E.mask) e in
@@ -183,16 +192,16 @@ module _ (M : Model) (words : List ℕ) (m : ModelKept) (t : TableRead) (k : Kep
             (by (eqb (node_at W s).location E.to) refl (empty? reach) refl)
           where
             by : (c : Bool) → eqb (node_at W s).location E.to ≡ c → (d : Bool) → empty? reach ≡ d →
-                Comes E S
+                Lands E S
                 (cond c
-                (cond d (record { finding = finding.None; share = E.weight * (node_at W s).value })
-                (cond (get_or contained s false && inside? landed zone_table) (record { finding = finding.None; share = E.weight * (node_at W s).value })
+                (cond d (Ok (E.weight * (node_at W s).value))
+                (cond (get_or contained s false && inside? landed zone_table) (Ok (E.weight * (node_at W s).value))
                 (cond (inside? landed invariant_table)
-                (cond (inside? landed zone_table) (record { finding = finding.None; share = E.weight * (node_at W s).value })
-                (record { finding = finding.NotInside p; share = 0 }))
+                (cond (inside? landed zone_table) (Ok (E.weight * (node_at W s).value))
+                (refuse reason.NotInside p))
                 (cond (empty? (common landed invariant_table) || inside? (common landed invariant_table) zone_table)
-                (record { finding = finding.None; share = E.weight * t.whole }) (record { finding = finding.NotInside p; share = 0 })))))
-                (record { finding = finding.WrongLocation p; share = 0 }))
+                (Ok (E.weight * t.whole)) (refuse reason.NotInside p)))))
+                (refuse reason.WrongLocation p))
             by true q true e = nothing-lands (eqb-true _ _ q) e
             by true q false e =
                 let at : (node_at W s).location ≡ E.to = eqb-true _ _ q in

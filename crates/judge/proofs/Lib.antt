@@ -1,6 +1,6 @@
--- The laws of `judge`, none of which uses a later one: findings, the parts of a cut, the reach, where edges land, the walk, the verdict; proofs of
+-- The laws of `judge`, none of which uses a later one: steps, the parts of a cut, the reach, where edges land, the walk, the verdict; proofs of
 -- functions stand in folders of their own.
-pub mod FindingLaws
+pub mod StepLaws
 pub mod PartLaws
 pub mod RowReach
 pub mod OutsideLaws
@@ -17,5 +17,4 @@ pub mod Handing
 pub mod Answering
 pub mod Computing
 pub mod Cases
-pub mod Numbering
 pub mod OneAnswer

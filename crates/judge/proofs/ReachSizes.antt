@@ -8,8 +8,8 @@ use Rattle.zone.proofs.Sizes.{small-met, small-delayed, small-reset, tightens-fe
 use Rattle.judge.specs.Reaching.{common, waited_square}
 
 -- what two zones meet in can be tightened
-pub met-fits : (y z r : Square) → r ≡ met y z → Tightens 1 y → Tightens 1 z → Tightens 1 r
-met-fits y z r e s t = rw e (small-met y s z t)
+pub met_small : (y z r : Square) → r ≡ met y z → Tightens 1 y → Tightens 1 z → Tightens 1 r
+met_small y z r e s t = rw e (small-met y s z t)
 
 pub waited_tightens : {y i : Square} → Tightens 3 y → Tightens 3 i → Tightens 2 (waited_square y i)
 unfolding waited_square common

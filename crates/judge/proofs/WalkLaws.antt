@@ -1,45 +1,40 @@
 -- Laws of the walk: what each turn of its loops leaves to be judged. Assumes nothing.
 use Prim.Native.Nat.{ℕ, suc, ◌+◌, ◌-◌, ◌*◌, ◌≤◌, ◌<◌, ◌^◌}
 use mathlib.Core.Path.{◌≡◌, refl, sym, ap, ◌∙◌}
-use mathlib.Core.Bool.{Bool, true, false, not}
+use mathlib.Core.Bool.{Bool, true, false}
 use mathlib.Core.List.{List}
 use native.Mathlib.Nat.{mul-le-mul_left, mul-lt-mul_of_pos_right}
 use native.Mathlib.Numerals.{add-one}
 use native.Mathlib.Omega.{arith}
-use borrow.Author.Tests.{not-true, not-false, eq-eqb, ne_eqb, le-leb, lt-leb}
-use lib.ListN.{length, get_or}
+use borrow.Author.Tests.{eq-eqb, ne_eqb, le-leb, lt-leb}
+use lib.ListN.{length, get_or, take, drop, length-take, length-drop}
+use Rattle.std.proofs.Common.{get_or-take, get_or-drop}
+use Rattle.std.specs.Prelude.{Result, Ok, Err}
+use Rattle.answers.specs.declared.Reason.TheVariants as reason
+use Rattle.answers.specs.declared.Refusal.{Refusal}
 use Rattle.zone.specs.Words.{kind}
 use Rattle.zone.specs.Squares.{empty?, Tightens}
-use Rattle.zone.specs.Stores.{zone_at, HasSlot}
+use Rattle.zone.specs.Stores.{zone_at}
 use Rattle.zone.specs.declared.zones.Zone.{Zone as Square}
-use Rattle.model.specs.TableKinds.{blocked, cut, table_number}
+use Rattle.model.specs.TableKinds.{blocked, table_number}
 use Rattle.model.specs.Fields.{lands_at}
 use Rattle.model.specs.Scan.{guards_at}
 use Rattle.model.specs.Index.{Kept as ModelKept}
 use Rattle.table.specs.Fields.{number_of}
 use Rattle.table.specs.Scan.{edges_at, row_size}
-use Rattle.table.specs.Nodes.{entry_at, HasNode}
 use Rattle.table.specs.Index.{Kept}
 use Rattle.table.specs.declared.nodes.NodeEntry.{NodeEntry}
-use Rattle.table.specs.declared.read.TableRead.{TableRead}
 use Rattle.judge.specs.Reaching.{common, waited_square}
-use Rattle.judge.specs.Findings.{or_else}
-use Rattle.judge.specs.Cutting.{cut_finding, CutAsked}
-use Rattle.judge.specs.Landing.{successor_outcome, SuccessorAsked}
-use Rattle.judge.specs.Walk.{successors_from, rows_from, rows_finding, node_finding, nodes_from, walked}
-use Rattle.judge.specs.Walk.{ActionAsked, RowsInRange, EdgesFit, RowsAsked, BodyAsked, NodeAsked}
-use Rattle.judge.specs.declared.findings.Finding.{Finding}
-use Rattle.judge.specs.declared.findings.Finding.TheVariants as finding
-use Rattle.judge.specs.declared.landing.Outcome.{Outcome}
-use Rattle.judge.proofs.FindingLaws.{found_first}
+use Rattle.answers.specs.Refusals.{refuse}
+use Rattle.judge.specs.Steps.{Checked, and_then}
+use Rattle.judge.specs.Landing.{successor_share}
+use Rattle.judge.specs.Walk.{successors_from, rows_from, rows_checked, node_checked, nodes_from}
+use Rattle.judge.specs.Walk.{ActionAsked, RowsInRange, EdgesFit, RowsAsked}
 use Rattle.judge.proofs.ReachSizes.{waited_tightens, common-tightens}
 
 -- one of those that are left
 one_left : (m n : ℕ) → n < m → m - n ≡ suc (m - suc n)
 one_left m n h = omega arith
-
-pub fewer-left : {m n : ℕ} → n < m → m - (n + 1) < m - n
-fewer-left h = omega arith
 
 pub product_small : (a b m n : ℕ) → a < m → b < n → a * b < m * n
 product_small a b m n h k =
@@ -49,57 +44,55 @@ product_small a b m n h k =
     let q = mul-lt-mul_of_pos_right h o in
     omega arith
 
--- ---- what the walk asks of a node whose location is no target
-module _ (words : List ℕ) (m : ModelKept) (k : Kept) where
-  pub body-asked : (n : ℕ) {N : NodeEntry} → N ≡ entry_at k.nodes n → NodeAsked words m k n →
-      get_or m.index.targets N.location false ≡ false → BodyAsked words m k n N
-  body-asked n e asked un = rw e (asked.body (rw e at un))
+-- the edges of an action, from one number up to another
+module _ (edges : List ℕ) (from to : ℕ) where
+  abbrev between : List ℕ
+  between = take (to - from) (drop from edges)
 
-  -- the words behind the value of a node
-  module _ (n : ℕ) {N : NodeEntry} (b : BodyAsked words m k n N) where
-    pub behind-there : N.place + 1 < length words
-    behind-there = rw (add-one N.place) b.there
+  pub edge-within : (i : ℕ) → i < length between → from + i < to
+  edge-within i h = omega (arith, length-take (to - from) (drop from edges), length-drop from edges)
 
-    pub cut-there : kind (get_or words (N.place + 1) 0) ≡ table_number cut → CutAsked words k n (N.place + 1)
-    cut-there q = let c = eq-eqb _ _ q in rw (add-one N.place) (b.parts (rw (add-one N.place) at c))
+  pub edges-end : (i : ℕ) → to ≤ length edges → length between ≤ i → to ≤ from + i
+  edges-end i h e = omega (arith, length-take (to - from) (drop from edges), length-drop from edges)
 
-    pub rows-there : (kind (get_or words (N.place + 1) 0) ≡ table_number cut → ⊥) → RowsAsked words m k n N
-    rows-there q = let c = ne_eqb _ _ q in b.rows (rw (add-one N.place) at c)
+  pub edge-there : (i : ℕ) → i < length between → get_or between i 0 ≡ get_or edges (from + i) 0
+  edge-there i h =
+      let l : i < to - from = let w = edge-within i h in omega arith in
+      rw (get_or-take, get_or-drop)
 
 module _ (words : List ℕ) (whole : ℕ) (m : ModelKept) (contained : List Bool) (k : Kept) where
   -- ---- nodes
   -- before the node n; the whole walk comes to `goal`
-  pub record AtNode (goal : Finding) (count n : ℕ) : Type 0 where
+  pub record AtNode (goal : Checked) (count n : ℕ) : Type 0 where
     pub within : n ≤ count
     pub onward : goal ≡ nodes_from words whole m contained k (count - n) n
 
-  pub nodes_begin : (t : TableRead) → t.whole ≡ whole → AtNode (walked words m contained k t) t.count 0
-  unfolding walked
-  nodes_begin t v =
-      let e : t.count - 0 ≡ t.count = omega arith in
-      record { within = omega arith; onward = rw (e, v) }
+  pub nodes_begin : (count : ℕ) → AtNode (nodes_from words whole m contained k count 0) count 0
+  nodes_begin count = let e : count - 0 ≡ count = omega arith in record { within = omega arith; onward = rw e }
 
-  module _ {goal : Finding} {count n : ℕ} (i : AtNode goal count n) where
-    pub nodes-end : count ≤ n → finding.None ≡ goal
+  module _ {goal : Checked} {count n : ℕ} (i : AtNode goal count n) where
+    pub nodes-end : count ≤ n → Ok tt ≡ goal
     unfolding nodes_from
     nodes-end h = let e : count - n ≡ 0 = omega arith in sym (i.onward ∙ rw e)
 
-    module _ (h : n < count) {f : Finding} (e : f ≡ node_finding words whole m contained k n) where
-      one-node : goal ≡ or_else f (nodes_from words whole m contained k (count - suc n) (suc n))
+    module _ (h : n < count) where
+      one-node : {r : Checked} → r ≡ node_checked words whole m contained k n →
+          goal ≡ and_then r (λ _. nodes_from words whole m contained k (count - suc n) (suc n))
       unfolding nodes_from
-      one-node = i.onward ∙ rw (one_left count n h, e)
+      one-node e = i.onward ∙ rw (one_left count n h, e)
 
-      pub node-found : (f ≡ finding.None → ⊥) → f ≡ goal
-      node-found un = found_first f _ un ∙ sym one-node
+      pub node-found : {r : Refusal} → Err r ≡ node_checked words whole m contained k n → Err r ≡ goal
+      unfolding and_then
+      node-found e = sym (one-node e)
 
-      pub node-next : f ≡ finding.None → AtNode goal count (n + 1)
-      unfolding or_else
-      node-next none = rw (add-one n) (record { within = omega arith; onward = one-node ∙ rw none })
+      pub node-next : Ok tt ≡ node_checked words whole m contained k n → AtNode goal count (n + 1)
+      unfolding and_then
+      node-next e = rw (add-one n) (record { within = omega arith; onward = one-node e })
 
   -- ---- rows
   -- before the row of the action a, of those up to `last`, of a node of that value; the whole node comes to `goal`
-  pub record AtRow (goal : Finding) (waited : Square) (value last : ℕ) (f : Finding) (at a : ℕ) : Type 0 where
-    pub none : f ≡ finding.None
+  pub record AtRow (goal : Checked) (waited : Square) (value last : ℕ) (f : Checked) (at a : ℕ) : Type 0 where
+    pub none : f ≡ Ok tt
     pub tightens : Tightens 2 waited
     pub limit : last ≤ 32
     pub fits : RowsInRange words m k (last - a) a at
@@ -112,9 +105,9 @@ module _ (words : List ℕ) (whole : ℕ) (m : ModelKept) (contained : List Bool
 
   -- before the edge e, of those up to `end`, of the row of the action a, which begins at the place `first`
   pub record AtSuccessor
-      (goal : Finding) (waited : Square) (value last a : ℕ) (reach : Square) (empty : Bool) (limit first end : ℕ) (f : Finding)
+      (goal : Checked) (waited : Square) (value last a : ℕ) (reach : Square) (empty : Bool) (limit first end : ℕ) (f : Checked)
       (at sum e : ℕ) : Type 0 where
-    pub none : f ≡ finding.None
+    pub none : f ≡ Ok tt
     pub reached : Tightens 1 reach
     pub lands : (j : ℕ) → e ≤ j → j < end → Tightens 1 (zone_at m.zones (lands_at (get_or m.edges j 0)))
     pub edges : end ≤ 128
@@ -123,44 +116,22 @@ module _ (words : List ℕ) (whole : ℕ) (m : ModelKept) (contained : List Bool
     pub small : sum ≤ e * 2 ^ 48
     pub fits : RowsInRange words m k (last - suc a) (suc a) (first + edges_at m.index a)
     pub onward : goal ≡
-        or_else (successors_from words whole m contained k reach empty limit first (end - e) e at sum)
-        (rows_from words whole m contained k waited value (last - suc a) (suc a) (first + edges_at m.index a))
-
-  module _ (n : ℕ) {N : NodeEntry} (e : N ≡ entry_at k.nodes n) where
-    module _ (target : get_or m.index.targets N.location false ≡ true) where
-      pub target-good : N.value ≡ whole → finding.None ≡ node_finding words whole m contained k n
-      unfolding node_finding
-      target-good q = rw (← e, target, eq-eqb _ _ q)
-
-      pub target-bad : (N.value ≡ whole → ⊥) → finding.BadTargetValue N.place ≡ node_finding words whole m contained k n
-      unfolding node_finding
-      target-bad q = rw (← e, target, ne_eqb _ _ q)
-
-    -- a node whose location is no target, cut or not
-    module _ (un : get_or m.index.targets N.location false ≡ false) {f : Finding} where
-      pub node-cut : kind (get_or words (N.place + 1) 0) ≡ table_number cut → f ≡ cut_finding words k n N (N.place + 1) →
-          f ≡ node_finding words whole m contained k n
-      unfolding node_finding
-      node-cut q ef = let c = eq-eqb _ _ q in ef ∙ rw (← e, un, ← add-one N.place, c)
-
-      pub node-uncut : (kind (get_or words (N.place + 1) 0) ≡ table_number cut → ⊥) → f ≡ rows_finding words whole m contained k n N →
-          f ≡ node_finding words whole m contained k n
-      unfolding node_finding
-      node-uncut q ef = let c = ne_eqb _ _ q in ef ∙ rw (← e, un, ← add-one N.place, c)
+        and_then (successors_from words whole m contained k reach empty limit first (end - e) e at sum) (λ _.
+        rows_from words whole m contained k waited value (last - suc a) (suc a) (first + edges_at m.index a))
 
   -- the rows of a node
   module _
       (n : ℕ) (N : NodeEntry) {first last : ℕ} (ef : first ≡ get_or m.index.actions N.location 0)
       (el : last ≡ get_or m.index.actions (N.location + 1) 0) where
-    pub no_rows : first ≡ last → finding.None ≡ rows_finding words whole m contained k n N
-    unfolding rows_finding rows_from
+    pub no_rows : first ≡ last → Ok tt ≡ rows_checked words whole m contained k n N
+    unfolding rows_checked rows_from
     no_rows q =
         let none : get_or m.index.actions (N.location + 1) 0 - get_or m.index.actions N.location 0 ≡ 0 = omega arith in
         rw none
 
     pub node-rows : {y i waited : Square} → RowsAsked words m k n N → y ≡ zone_at k.zones n → i ≡ zone_at m.zones N.location →
-        waited ≡ waited_square y i → AtRow (rows_finding words whole m contained k n N) waited N.value last finding.None (N.place + 1) first
-    unfolding rows_finding
+        waited ≡ waited_square y i → AtRow (rows_checked words whole m contained k n N) waited N.value last (Ok tt) (N.place + 1) first
+    unfolding rows_checked
     node-rows asked ey ei ew = rw (add-one N.place, ew, ey, ei, ef, el) (record {
       none = refl;
       tightens = waited_tightens asked.zone asked.invariant;
@@ -169,7 +140,7 @@ module _ (words : List ℕ) (whole : ℕ) (m : ModelKept) (contained : List Bool
       onward = refl;
     })
 
-  module _ {goal : Finding} {waited : Square} {value last : ℕ} {f : Finding} {at a : ℕ} (i : AtRow goal waited value last f at a) where
+  module _ {goal : Checked} {waited : Square} {value last : ℕ} {f : Checked} {at a : ℕ} (i : AtRow goal waited value last f at a) where
     pub rows_end : last ≤ a → f ≡ goal
     unfolding rows_from
     rows_end h = let e : last - a ≡ 0 = omega arith in i.none ∙ sym (i.onward ∙ rw e)
@@ -185,6 +156,9 @@ module _ (words : List ℕ) (whole : ℕ) (m : ModelKept) (contained : List Bool
       unfolding RowsInRange
       row-asked = one-fits.0
 
+      pub row-ordered : get_or m.index.edges a 0 ≤ get_or m.index.edges (a + 1) 0
+      row-ordered = rw (add-one a) row-asked.ordered
+
       pub row-place : at < length words
       unfolding RowsInRange
       row-place = one-fits.1
@@ -193,12 +167,12 @@ module _ (words : List ℕ) (whole : ℕ) (m : ModelKept) (contained : List Bool
         emptiness : empty? (common waited (zone_at m.zones (guards_at + a))) ≡ empty
         emptiness = rw (← r.reaches) (sym r.empties)
 
-        pub row-not-blocked : kind (get_or words at 0) ≡ table_number blocked → not empty ≡ true → finding.NotBlocked at ≡ goal
+        pub row-not-blocked : kind (get_or words at 0) ≡ table_number blocked → empty ≡ false → refuse reason.NotBlocked at ≡ goal
         unfolding rows_from
-        row-not-blocked e un = sym (one-row ∙ rw (eq-eqb _ _ e, emptiness, not-true empty un))
+        row-not-blocked e un = sym (one-row ∙ rw (eq-eqb _ _ e, emptiness, un))
 
         pub row-blocked :
-            {f' : Finding} {at' : ℕ} → f' ≡ f → at' ≡ at + 1 → kind (get_or words at 0) ≡ table_number blocked → not empty ≡ false →
+            {f' : Checked} {at' : ℕ} → f' ≡ f → at' ≡ at + 1 → kind (get_or words at 0) ≡ table_number blocked → empty ≡ true →
             AtRow goal waited value last f' at' (a + 1)
         unfolding rows_from RowsInRange row_size
         row-blocked ef ea e is =
@@ -207,7 +181,7 @@ module _ (words : List ℕ) (whole : ℕ) (m : ModelKept) (contained : List Bool
               tightens = i.tightens;
               limit = i.limit;
               fits = rw (eq-eqb _ _ e, add-one at) at one-fits.3;
-              onward = one-row ∙ rw (eq-eqb _ _ e, emptiness, not-false empty is);
+              onward = one-row ∙ rw (eq-eqb _ _ e, emptiness, is);
             })
 
         pub row-successors :
@@ -228,43 +202,29 @@ module _ (words : List ℕ) (whole : ℕ) (m : ModelKept) (contained : List Bool
 
   -- ---- successors
   module _
-      {goal : Finding} {waited : Square} {value last a : ℕ} {reach : Square} {empty : Bool} {limit first end : ℕ} {f : Finding} {at sum e : ℕ}
+      {goal : Checked} {waited : Square} {value last a : ℕ} {reach : Square} {empty : Bool} {limit first end : ℕ} {f : Checked} {at sum e : ℕ}
       (i : AtSuccessor goal waited value last a reach empty limit first end f at sum e) where
-    abbrev behind_row : Finding
+    abbrev behind_row : Checked
     behind_row = rows_from words whole m contained k waited value (last - suc a) (suc a) (first + edges_at m.index a)
 
     module _ (h : e < end) where
-      pub successor-place : at < length words
-      successor-place = let p = i.place in let w = i.within in omega arith
-
-      pub successor-asked : {w s : ℕ} → w ≡ get_or m.edges e 0 → HasSlot (lands_at w) m.zones → s < 64 → HasNode s k.nodes → HasSlot s k.zones →
-          SuccessorAsked reach w m.zones k s
-      successor-asked ew slot few node zone = record {
-        reached = i.reached;
-        invariant = rw ew (i.lands e (omega arith) h);
-        location = slot;
-        number = few;
-        node = node;
-        zone = zone;
-      }
-
-      module _ {w s : ℕ} {o : Outcome} (ew : w ≡ get_or m.edges e 0) (es : s ≡ number_of (get_or words at 0))
-          (eo : o ≡ successor_outcome reach empty w m.zones contained whole k s at) where
-        one-successor :
-            goal ≡ or_else (or_else o.finding (successors_from words whole m contained k reach empty limit first (end - suc e) (suc e) (suc at) (sum + o.share)))
-            behind_row
+      module _ {w s : ℕ} (ew : w ≡ get_or m.edges e 0) (es : s ≡ number_of (get_or words at 0)) where
+        one-successor : {r : Result ℕ Refusal} → r ≡ successor_share reach empty w m.zones contained whole k s at →
+            goal ≡
+            and_then
+            (and_then r (λ share. successors_from words whole m contained k reach empty limit first (end - suc e) (suc e) (suc at) (sum + share)))
+            (λ _. behind_row)
         unfolding successors_from
-        one-successor = i.onward ∙ rw (one_left end e h, eo, es, ew)
+        one-successor q = i.onward ∙ rw (one_left end e h, q, es, ew)
 
-        pub successor-found : (o.finding ≡ finding.None → ⊥) → o.finding ≡ goal
-        successor-found un =
-            found_first o.finding behind_row un
-            ∙ sym (one-successor ∙ ap (λ (g : Finding). or_else g behind_row) (sym (found_first o.finding _ un)))
+        pub successor-found : {r : Refusal} → Err r ≡ successor_share reach empty w m.zones contained whole k s at → Err r ≡ goal
+        unfolding and_then
+        successor-found q = sym (one-successor q)
 
-        pub successor-next : o.finding ≡ finding.None → o.share < 2 ^ 48 →
-            AtSuccessor goal waited value last a reach empty limit first end f (at + 1) (sum + o.share) (e + 1)
-        unfolding or_else
-        successor-next is b =
+        pub successor-next : {share : ℕ} → Ok share ≡ successor_share reach empty w m.zones contained whole k s at → share < 2 ^ 48 →
+            AtSuccessor goal waited value last a reach empty limit first end f (at + 1) (sum + share) (e + 1)
+        unfolding and_then
+        successor-next r b =
             let p = i.place in
             let q = i.small in
             rw (add-one at, add-one e) (record {
@@ -276,23 +236,23 @@ module _ (words : List ℕ) (whole : ℕ) (m : ModelKept) (contained : List Bool
               within = i.within;
               small = omega arith;
               fits = i.fits;
-              onward = one-successor ∙ rw is;
+              onward = one-successor r;
             })
 
     module _ (h : end ≤ e) where
-      none_left : goal ≡ or_else (successors_from words whole m contained k reach empty limit first 0 e at sum) behind_row
+      none_left : goal ≡ and_then (successors_from words whole m contained k reach empty limit first 0 e at sum) (λ _. behind_row)
       none_left =
           i.onward
-          ∙ ap (λ (c : ℕ). or_else (successors_from words whole m contained k reach empty limit first c e at sum) behind_row)
+          ∙ ap (λ (c : ℕ). and_then (successors_from words whole m contained k reach empty limit first c e at sum) (λ _. behind_row))
           (let q : end - e ≡ 0 = omega arith in q)
 
-      pub sum_large : limit < sum → finding.SumTooLarge first ≡ goal
-      unfolding successors_from or_else
+      pub sum_large : limit < sum → refuse reason.SumTooLarge first ≡ goal
+      unfolding successors_from and_then
       sum_large l = sym (none_left ∙ rw (lt-leb _ _ l))
 
-      pub row-end : {f' : Finding} {at' : ℕ} → f' ≡ f → at' ≡ at → sum ≤ limit → Tightens 2 waited → last ≤ 32 →
+      pub row-end : {f' : Checked} {at' : ℕ} → f' ≡ f → at' ≡ at → sum ≤ limit → Tightens 2 waited → last ≤ 32 →
           AtRow goal waited value last f' at' (a + 1)
-      unfolding successors_from or_else
+      unfolding successors_from and_then
       row-end ef ea l tightens few =
           let p = i.place in
           let q : at ≡ first + edges_at m.index a = omega arith in

@@ -68,6 +68,7 @@ module _ (M : Model) (words : List ℕ) (m : ModelKept) (k : Kept) (x : Indexed 
   action-asked : (a : ℕ) (A : Action) → ActionIs M m a A → ActionAsked words m k a
   action-asked a A y = record {
     guard = rw y.at.guard (tightens-fewer 2 3 _ (omega arith) (tightens-bounds A.guard y.good.guard));
+    ordered = let ends = y.at.ends in omega arith;
     lands = λ j from to.
         tightens-fewer 1 3 _ (omega arith) (lands-in-range A.edges (get_or m.index.edges a 0) y.at.edges y.formed.edges j from
         (rw y.at.ends at to));

@@ -1,5 +1,6 @@
 -- The walk decides the checks 15 to 19, and 51 to 53 of cuts. Assumes nothing.
 use Prim.Native.Nat.{ℕ, suc, ◌+◌, ◌*◌, ◌≤◌, ◌<◌}
+use Rattle.std.specs.Prelude.{Ok}
 use mathlib.Core.Path.{◌≡◌, refl, sym, ap, ap₂, ◌∙◌}
 use mathlib.Core.Logic.{◌↔◌}
 use mathlib.Core.Bool.{Bool, true, false, cond, ◌&&◌, ◌||◌}
@@ -9,7 +10,9 @@ use borrow.Author.Tests.{eqb-true, eqb-false, eq-eqb, leb-true, leb-false, le-le
 use lib.Dec.{eqb, leb, ltb}
 use lib.ListN.{get_or, length, drop}
 use Rattle.zone.specs.Scale.{Zone, Region}
-use Rattle.zone.specs.Checks.{check, First}
+use Rattle.answers.specs.Checks.{check, First}
+use Rattle.answers.specs.Refusals.{number, answer_of}
+use Rattle.answers.specs.declared.Reason.TheVariants as reason
 use Rattle.zone.specs.Squares.{universe, empty?, inside?}
 use Rattle.zone.specs.Stores.{zone_at}
 use Rattle.zone.specs.declared.zones.Zone.{Zone as Square}
@@ -30,6 +33,7 @@ use Rattle.table.specs.Table.{successors_of, rows_of, cut_of, row_actions, body_
 use Rattle.table.specs.Scan.{edges_at, row_size}
 use Rattle.table.specs.Index.{Kept}
 use Rattle.table.specs.Indexed.{NodeIs, TableIndexed}
+use Rattle.table.specs.Nodes.{entry_at}
 use Rattle.table.specs.declared.nodes.NodeEntry.{NodeEntry}
 use Rattle.table.specs.declared.read.TableRead.{TableRead}
 use Rattle.table.proofs.Shape.{RowStands, RowsStand, CutStands, BodyStands, NodeShaped, Shaped}
@@ -37,13 +41,11 @@ use Rattle.acceptance.specs.Acceptance.{SumOf, SumFits, Matches}
 use Rattle.acceptance.specs.Judging.{successor_checks, row_checks, rows_checks, part_checks, cut_checks, body_checks, node_checks, nodes_checks}
 use Rattle.acceptance.proofs.SumLaws.{sum_one, sum-there}
 use Rattle.judge.specs.Reaching.{common, waited_square, contained_below}
-use Rattle.judge.specs.Landing.{successor_outcome}
-use Rattle.judge.specs.Findings.{or_else, finding_answer}
-use Rattle.judge.specs.Cutting.{part_finding, cut_finding}
-use Rattle.judge.specs.Walk.{successors_from, rows_from, rows_finding, node_finding, nodes_from, walked}
-use Rattle.judge.specs.declared.findings.Finding.{Finding}
-use Rattle.judge.specs.declared.findings.Finding.TheVariants as finding
-use Rattle.judge.proofs.FindingLaws.{Finds, finds-first, none_found, decides, found_as}
+use Rattle.answers.specs.Refusals.{refuse}
+use Rattle.judge.specs.Steps.{Checked, and_then}
+use Rattle.judge.specs.Cutting.{part_checked, cut_checked}
+use Rattle.judge.specs.Walk.{successors_from, rows_from, rows_checked, node_checked, nodes_from, walked}
+use Rattle.judge.proofs.StepLaws.{Finds, comes-first, none_found, decides, found_as}
 use Rattle.judge.proofs.EdgeLaws.{comes}
 use Rattle.judge.proofs.RowLaws.{front, beyond, behind, node_at_lem, shaped-at, ActionIs, actions-at, actions-count, edges-at}
 use Rattle.judge.proofs.PartLaws.{Decides, holding-decides, rest-decides}
@@ -96,19 +98,17 @@ module _ (M : Model) (words : List ℕ) (m : ModelKept) (t : TableRead) (k : Kep
         ((r : ℕ) → SumOf M W N A Es (successors_of (length Es) at ws) r → (sum + r ≤ limit) ↔ Q) →
         Finds (successor_checks M W N A Es (successors_of (length Es) at ws) ++ (check 19 first Q ∷ []))
         (successors_from words t.whole m contained k reach (empty? reach) limit first (length Es) e at sum)
-    unfolding Each successor_checks successors_of successors_from finding_answer
+    unfolding Each successor_checks successors_of successors_from answer_of number
     successors-found limit first Q [] e at sum ws ys empty d l q =
         let all : sum + 0 ≡ sum = omega arith in
         let same : (sum ≤ limit) ↔ Q = rw all at (q 0 refl) in
-        decides (leb sum limit) (finding.SumTooLarge first) _ (λ b. same.0 (leb-true sum limit b))
+        decides (leb sum limit) (refuse reason.SumTooLarge first) _ (λ b. same.0 (leb-true sum limit b))
         (λ b h. let g : limit < sum = leb-false sum limit b in let n : sum ≤ limit = same.1 h in omega arith) refl none_found
     successors-found limit first Q (E ∷ Es) e at sum ws ys (more f fs) d l q =
         let w : ℕ = get_or m.edges e 0 in
         let s : ℕ = number_of (get_or ws 0 0) in
-        let c = comes M words m t k x good W i sh N A reach z E f s at (l 0 (omega arith)) w ys.0.reads in
-        let share : ℕ = (successor_outcome reach (empty? reach) w m.zones contained t.whole k s at).share in
-        rw (front at words ws d) (finds-first (_ ∷ _ ∷ []) _ _ _ c.finds (λ none.
-        let a = c.adds none in
+        rw (front at words ws d) (comes-first (_ ∷ _ ∷ []) _ _ _ _ _
+        (comes M words m t k x good W i sh N A reach z E f s at (l 0 (omega arith)) w ys.0.reads) (λ share a.
         successors-found limit first Q Es (suc e) (suc at) (sum + share) (drop 1 ws) ys.1 fs (next at words ws d)
         (λ j h. rw (number-next j ws) (l (suc j) (omega arith)))
         (λ r o.
@@ -131,31 +131,31 @@ module _ (M : Model) (words : List ℕ) (m : ModelKept) (t : TableRead) (k : Kep
     row-sum a A y ss = sum-there M W N A A.edges ss (all_known good (row-reached a A y) A.edges)
 
     -- n successors of the action a from a place on, where D is the denominator
-    abbrev successors_finding : ℕ → ℕ → ℕ → ℕ → Finding
-    successors_finding D n a at =
+    abbrev successors_checked : ℕ → ℕ → ℕ → ℕ → Checked
+    successors_checked D n a at =
         successors_from words t.whole m contained k (row_reach a) (empty? (row_reach a)) (D * N.value) at n (get_or m.index.edges a 0) at 0
 
     -- the row of the action a at a place
-    abbrev row_finding : Bool → ℕ → ℕ → Finding
-    row_finding b a at =
-        cond b (cond (empty? (row_reach a)) finding.None (finding.NotBlocked at))
-        (successors_finding m.index.denominator (edges_at m.index a) a at)
+    abbrev row_checked : Bool → ℕ → ℕ → Checked
+    row_checked b a at =
+        cond b (cond (empty? (row_reach a)) (Ok tt) (refuse reason.NotBlocked at))
+        (successors_checked m.index.denominator (edges_at m.index a) a at)
 
     -- the walk takes the first row, and goes on behind it
     rows_walked :
         (c a at w n : ℕ) → get_or words at 0 ≡ w → edges_at m.index a ≡ n →
         let b : Bool = is_table blocked w in
         rows_from words t.whole m contained k waited N.value (suc c) a at ≡
-        or_else (row_finding b a at) (rows_from words t.whole m contained k waited N.value c (suc a) (at + row_size b n))
-    unfolding rows_from row_size or_else
+        and_then (row_checked b a at) (λ _. rows_from words t.whole m contained k waited N.value c (suc a) (at + row_size b n))
+    unfolding rows_from row_size and_then
     rows_walked c a at w n e j = rw (← e, ← j) (by (is_table blocked (get_or words at 0)) (empty? (row_reach a)))
       where
-        rest : ℕ → Finding
+        rest : ℕ → Checked
         rest at = rows_from words t.whole m contained k waited N.value c (suc a) at
 
         by : (b none : Bool) →
-            cond b (cond none (rest (suc at)) (finding.NotBlocked at)) (or_else (row_finding false a at) (rest (at + edges_at m.index a))) ≡
-            or_else (cond b (cond none finding.None (finding.NotBlocked at)) (row_finding false a at)) (rest (at + row_size b (edges_at m.index a)))
+            cond b (cond none (rest (suc at)) (refuse reason.NotBlocked at)) (and_then (row_checked false a at) (λ _. rest (at + edges_at m.index a))) ≡
+            and_then (cond b (cond none (Ok tt) (refuse reason.NotBlocked at)) (row_checked false a at)) (λ _. rest (at + row_size b (edges_at m.index a)))
         by true true = let e : suc at ≡ at + 1 = omega arith in rw e
         by true false = refl
         by false none = refl
@@ -163,11 +163,11 @@ module _ (M : Model) (words : List ℕ) (m : ModelKept) (t : TableRead) (k : Kep
     row-found :
         (b : Bool) (a : ℕ) (A : Action) (at : ℕ) (ws : List ℕ) → ActionIs M m a A → drop at words ≡ ws →
         RowStands (length W.nodes) b (length A.edges) ws →
-        Finds (row_checks M W N A (cond b (blocked_row at) (successor_row at (successors_of (length A.edges) at ws)))) (row_finding b a at)
-    unfolding row_checks RowStands finding_answer
+        Finds (row_checks M W N A (cond b (blocked_row at) (successor_row at (successors_of (length A.edges) at ws)))) (row_checked b a at)
+    unfolding row_checks RowStands answer_of number
     row-found true a A at ws y d s =
         let z = row-reached a A y in
-        decides _ (finding.NotBlocked at) _ z.blocked-pass z.blocked-fail refl none_found
+        decides _ (refuse reason.NotBlocked at) _ z.blocked-pass z.blocked-fail refl none_found
     row-found false a A at ws y d s =
         let ss : List Successor = successors_of (length A.edges) at ws in
         found_as
@@ -176,18 +176,18 @@ module _ (M : Model) (words : List ℕ) (m : ModelKept) (t : TableRead) (k : Kep
         (λ r o.
         let none : 0 + r ≡ r = omega arith in
         rw none ((λ h. (r, o, h)), λ f. rw (sum_one M W N A A.edges ss r f.0 o f.1) f.2)))
-        refl (ap₂ (λ (D n : ℕ). successors_finding D n a at) x.denominator (edges-at y.at))
+        refl (ap₂ (λ (D n : ℕ). successors_checked D n a at) x.denominator (edges-at y.at))
 
     rows-found :
         (As : List Action) (a at : ℕ) (ws : List ℕ) → Each (ActionIs M m) a As → drop at words ≡ ws → RowsStand (length W.nodes) As ws →
         Finds (rows_checks M W N As (rows_of As at ws)) (rows_from words t.whole m contained k waited N.value (length As) a at)
-    unfolding Each rows_checks rows_of rows_from RowsStand finding_answer
+    unfolding Each rows_checks rows_of rows_from RowsStand answer_of number
     rows-found [] a at ws y d s = record { says = tt }
     rows-found (A ∷ As) a at ws y d s =
         let b : Bool = is_table blocked (get_or ws 0 0) in
         let n : ℕ = length A.edges in
         let rest = rows-found As (suc a) (at + row_size b n) (drop (row_size b n) ws) y.1 (behind (row_size b n) at words ws d) s.1 in
-        found_as (finds-first _ _ _ _ (row-found b a A at ws y.0 d s.0) (λ _. rest))
+        found_as (comes-first _ _ _ _ _ _ (row-found b a A at ws y.0 d s.0) (λ _ _. rest))
         (ap (rows_checks M W N (A ∷ As)) (rows_split A As at ws))
         (rows_walked (length As) a at (get_or ws 0 0) n (front at words ws d) (edges-at y.0.at))
 
@@ -211,34 +211,35 @@ module _ (M : Model) (words : List ℕ) (m : ModelKept) (t : TableRead) (k : Kep
 
     part-found :
         (P : Region) (z : Square) → Decides P z → (s p : ℕ) → s < length W.nodes →
-        Finds (part_checks W n N P (record { node = s; place = p })) (part_finding k n (entry_for N) z s p)
-    unfolding part_checks part_finding finding_answer
+        Finds (part_checks W n N P (record { node = s; place = p })) (part_checked k n (entry_for N) z s p)
+    unfolding part_checks part_checked answer_of number
     part-found P z d s p l =
         let S : Zone = (node_at W s).zone in
         rw ((node_at_lem i s l).location, (node_at_lem i s l).value, (node_at_lem i s l).zone)
-        (decides (ltb n s) (finding.PartNotAbove p) _ (ltb-true n s) (λ b h. omega (arith, ltb-false n s b)) refl
-        (decides (matches? s) (finding.PartMismatch p) _ (matches-yes s p) (matches-no s p) refl
-        (decides (empty? z || inside? z (with_bounds S universe)) (finding.PartNotInside p) _ (d.pass S (shaped-at sh s l).zone)
+        (decides (ltb n s) (refuse reason.PartNotAbove p) _ (ltb-true n s) (λ b h. omega (arith, ltb-false n s b)) refl
+        (decides (matches? s) (refuse reason.PartMismatch p) _ (matches-yes s p) (matches-no s p) refl
+        (decides (empty? z || inside? z (with_bounds S universe)) (refuse reason.PartNotInside p) _ (d.pass S (shaped-at sh s l).zone)
         (d.fail S (shaped-at sh s l).zone) refl none_found)))
 
     -- the words ws of the cut stand at the place `at`
     cut-found : (at : ℕ) (ws : List ℕ) → drop at words ≡ ws → CutStands (length W.nodes) (location_at M N.location) ws →
-        Finds (cut_checks W n N (cut_of at ws)) (cut_finding words k n (entry_for N) at)
-    unfolding cut_checks cut_of cut_finding
+        Finds (cut_checks W n N (cut_of at ws)) (cut_checked words k n (entry_for N) at)
+    unfolding cut_checks cut_of cut_checked
     cut-found at ws e c =
         rw (front at words ws e, beyond 1 at words ws e, beyond 2 at words ws e, y.zone)
-        (finds-first _ _ _ _ (part-found _ _ (holding-decides N g.zone (get_or ws 0 0) c.bound) _ _ c.holding)
-        (λ _. part-found _ _ (rest-decides N g.zone (get_or ws 0 0) c.bound) _ _ c.rest))
+        (comes-first _ _ _ _ _ _ (part-found _ _ (holding-decides N g.zone (get_or ws 0 0) c.bound) _ _ c.holding)
+        (λ _ _. part-found _ _ (rest-decides N g.zone (get_or ws 0 0) c.bound) _ _ c.rest))
 
   -- ---- the nodes
 
-  node-found : (n : ℕ) (N : Node) → NodeIs k n N → NodeShaped M W words N → Finds (node_checks M W n N) (node_finding words t.whole m contained k n)
-  unfolding node_checks body_checks node_finding rows_finding finding_answer row_actions body_of BodyStands
+  entry-is : (n : ℕ) (N : Node) → NodeIs k n N → entry_at k.nodes n ≡ entry_for N
+  entry-is n N y = rw (← y.location, ← y.value, ← y.place) refl
+
+  node-found : (n : ℕ) (N : Node) → NodeIs k n N → NodeShaped M W words N → Finds (node_checks M W n N) (node_checked words t.whole m contained k n)
+  unfolding node_checks body_checks node_checked rows_checked answer_of number row_actions body_of BodyStands
   node-found n N y g =
       rw (
-        y.location,
-        y.value,
-        y.place,
+        entry-is n N y,
         y.zone,
         at.target,
         actions-count M m x good formed N.location g.exists,
@@ -259,7 +260,7 @@ module _ (M : Model) (words : List ℕ) (m : ModelKept) (t : TableRead) (k : Kep
           Finds
           (body_checks M W n N L.actions
           (cond c (cut_body (cut_of (suc N.place) ws)) (rows_body (rows_of (row_actions L) (suc N.place) ws))))
-          (cond c (cut_finding words k n (entry_for N) (suc N.place))
+          (cond c (cut_checked words k n (entry_for N) (suc N.place))
           (rows_from words t.whole m contained k (waited N g) N.value (length L.actions) (get_or m.index.actions N.location 0) (suc N.place)))
       body true e s = cut-found n N y g (suc N.place) ws refl s
       body false e s =
@@ -270,8 +271,8 @@ module _ (M : Model) (words : List ℕ) (m : ModelKept) (t : TableRead) (k : Kep
 
       by : (b : Bool) → L.target ≡ b →
           Finds (cond b (check 15 N.place (N.value ≡ W.whole) ∷ []) (body_checks M W n N L.actions N.body))
-          (cond b (cond (eqb N.value t.whole) finding.None (finding.BadTargetValue N.place))
-          (cond (is_table cut (get_or ws 0 0)) (cut_finding words k n (entry_for N) (suc N.place))
+          (cond b (cond (eqb N.value t.whole) (Ok tt) (refuse reason.BadTargetValue N.place))
+          (cond (is_table cut (get_or ws 0 0)) (cut_checked words k n (entry_for N) (suc N.place))
           (rows_from words t.whole m contained k (waited N g) N.value (length L.actions) (get_or m.index.actions N.location 0) (suc N.place))))
       by true e =
           decides (eqb N.value t.whole) _ _ (λ h. eqb-true N.value t.whole h ∙ i.whole)
@@ -281,16 +282,15 @@ module _ (M : Model) (words : List ℕ) (m : ModelKept) (t : TableRead) (k : Kep
   nodes-found :
       (Ns : List Node) (n : ℕ) → Each (NodeIs k) n Ns → All (NodeShaped M W words) Ns →
       Finds (nodes_checks M W n Ns) (nodes_from words t.whole m contained k (length Ns) n)
-  unfolding Each nodes_checks nodes_from finding_answer
+  unfolding Each nodes_checks nodes_from answer_of number
   nodes-found [] n y empty = record { says = tt }
-  nodes-found (N ∷ Ns) n y (more g gs) = finds-first _ _ _ _ (node-found n N y.0 g) (λ _. nodes-found Ns (suc n) y.1 gs)
+  nodes-found (N ∷ Ns) n y (more g gs) = comes-first _ _ _ _ _ _ (node-found n N y.0 g) (λ _ _. nodes-found Ns (suc n) y.1 gs)
 
 module _ (M : Model) (words : List ℕ) (m : ModelKept) (t : TableRead) (k : Kept) (x : Indexed M m) (good : GoodModel M) (formed : WellFormed M)
     (i : TableIndexed (table_of M words) t k) (sh : Shaped M words (table_of M words)) where
   pub walk_first :
       First (nodes_checks M (table_of M words) 0 (table_of M words).nodes) (λ (_ : Unit {0}). Unit {0})
-      (finding_answer (walked words m (contained_below k m.zones t.count) k t))
-  unfolding walked
+      (answer_of (walked words m (contained_below k m.zones t.count) k t))
   walk_first =
       let W : Table = table_of M words in
       (found_as (nodes-found M words m t k x good formed W i sh W.nodes 0 i.each sh.nodes) refl

@@ -1,34 +1,34 @@
 -- Algorithm: a node that is cut in two (document 02, card 1): the checks 51 to 53 of each part. Assumes nothing.
-use Rattle.std.specs.Prelude.{ℕ, ◌+◌, ◌≤◌, ◌<◌, cond, ◌&&◌, ◌||◌, List, eqb, leb, ltb, get_or, length}
+use Rattle.std.specs.Prelude.{ℕ, ◌+◌, ◌≤◌, ◌<◌, cond, ◌&&◌, ◌||◌, List, eqb, leb, ltb, get_or, length, Ok}
 use Rattle.zone.specs.Squares.{empty?, inside?}
 use Rattle.zone.specs.Stores.{zone_at}
 use Rattle.zone.specs.Parts.{holding_square, rest_square, CutBy}
 use Rattle.zone.specs.declared.zones.Zone.{Zone as Square}
+use Rattle.answers.specs.declared.Reason.TheVariants as reason
 use Rattle.table.specs.Fields.{number_of}
 use Rattle.table.specs.Nodes.{entry_at}
 use Rattle.table.specs.Index.{Kept, StoresFit}
 use Rattle.table.specs.declared.nodes.NodeEntry.{NodeEntry}
-use Rattle.judge.specs.Findings.{or_else}
-use Rattle.judge.specs.declared.findings.Finding.{Finding}
-use Rattle.judge.specs.declared.findings.Finding.TheVariants as finding
+use Rattle.answers.specs.Refusals.{refuse}
+use Rattle.judge.specs.Steps.{Checked, and_then}
 
 -- 51 to 53: the part z of the node N numbered n, and its successor s at the place p
-unfoldable pub part_finding : Kept → ℕ → NodeEntry → Square → ℕ → ℕ → Finding
-part_finding k n N z s p =
+unfoldable pub part_checked : Kept → ℕ → NodeEntry → Square → ℕ → ℕ → Checked
+part_checked k n N z s p =
     let S : NodeEntry = entry_at k.nodes s in
     cond (ltb n s)
     (cond (eqb S.location N.location && leb S.value N.value)
-    (cond (empty? z || inside? z (zone_at k.zones s)) finding.None (finding.PartNotInside p))
-    (finding.PartMismatch p))
-    (finding.PartNotAbove p)
+    (cond (empty? z || inside? z (zone_at k.zones s)) (Ok tt) (refuse reason.PartNotInside p))
+    (refuse reason.PartMismatch p))
+    (refuse reason.PartNotAbove p)
 
 -- the cut of that node, whose word of kind D stands at the place `at`
-unfoldable pub cut_finding : List ℕ → Kept → ℕ → NodeEntry → ℕ → Finding
-cut_finding words k n N at =
+unfoldable pub cut_checked : List ℕ → Kept → ℕ → NodeEntry → ℕ → Checked
+cut_checked words k n N at =
     let w : ℕ = get_or words at 0 in
     let z : Square = zone_at k.zones n in
-    or_else (part_finding k n N (holding_square w z) (number_of (get_or words (at + 1) 0)) (at + 1))
-    (part_finding k n N (rest_square w z) (number_of (get_or words (at + 2) 0)) (at + 2))
+    and_then (part_checked k n N (holding_square w z) (number_of (get_or words (at + 1) 0)) (at + 1)) (λ _.
+    part_checked k n N (rest_square w z) (number_of (get_or words (at + 2) 0)) (at + 2))
 
 -- ---- what it asks
 

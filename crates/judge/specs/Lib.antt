@@ -1,9 +1,8 @@
--- The definitions that the contracts of `judge` rest on: a verdict in the documents' numbers and values, then the algorithms.
-pub mod Verdicts
-pub mod Numbers
-pub mod Findings
+-- The definitions that the contracts of `judge` rest on: the algorithms.
+pub mod Steps
 pub mod Reaching
 pub mod Landing
 pub mod Cutting
 pub mod Walk
+pub mod Looking
 pub mod Deciding

@@ -1,9 +1,10 @@
 -- Algorithm: the checks 15 to 19, node by node, row by row, successor by successor, up to the first that fails; 51 to 53 where a node is cut.
 -- Assumes nothing.
-use Rattle.std.specs.Prelude.{ℕ, zero, suc, ◌+◌, ◌-◌, ◌*◌, ◌≤◌, ◌<◌, ◌≡◌, Bool, true, false, cond, List, get_or, length, eqb, leb}
+use Rattle.std.specs.Prelude.{ℕ, zero, suc, ◌+◌, ◌-◌, ◌*◌, ◌≤◌, ◌<◌, ◌≡◌, Bool, true, false, cond, List, get_or, length, eqb, leb, Ok}
 use Rattle.zone.specs.Squares.{empty?, Tightens}
 use Rattle.zone.specs.Stores.{zone_at}
 use Rattle.zone.specs.declared.zones.Zone.{Zone as Square}
+use Rattle.answers.specs.declared.Reason.TheVariants as reason
 use Rattle.model.specs.TableKinds.{blocked, cut, is_table}
 use Rattle.model.specs.Fields.{lands_at}
 use Rattle.model.specs.Scan.{guards_at}
@@ -14,59 +15,57 @@ use Rattle.table.specs.Scan.{edges_at, row_size}
 use Rattle.table.specs.Index.{Kept as TableKept, StoresFit as TableStoresFit}
 use Rattle.table.specs.declared.nodes.NodeEntry.{NodeEntry}
 use Rattle.table.specs.declared.read.TableRead.{TableRead}
-use Rattle.judge.specs.Findings.{or_else}
+use Rattle.answers.specs.Refusals.{refuse}
+use Rattle.judge.specs.Steps.{Checked, and_then}
 use Rattle.judge.specs.Reaching.{common, waited_square}
-use Rattle.judge.specs.Landing.{successor_outcome}
-use Rattle.judge.specs.Cutting.{cut_finding, CutAsked}
-use Rattle.judge.specs.declared.findings.Finding.{Finding}
-use Rattle.judge.specs.declared.findings.Finding.TheVariants as finding
-use Rattle.judge.specs.declared.landing.Outcome.{Outcome}
+use Rattle.judge.specs.Landing.{successor_share}
+use Rattle.judge.specs.Cutting.{cut_checked, CutAsked}
 
 -- the table's words and its V, what is kept of the model, and of the table, with which of its nodes have zones
 -- within their invariants by their bounds
 module _ (words : List ℕ) (whole : ℕ) (m : ModelKept) (contained : List Bool) (k : TableKept) where
   -- n successors from the edge e and the place `at` on, with the sum so far; `first` is the place of the row's first word
-  unfoldable pub successors_from : Square → Bool → ℕ → ℕ → ℕ → ℕ → ℕ → ℕ → Finding
-  successors_from reach empty limit first zero e at sum = cond (leb sum limit) finding.None (finding.SumTooLarge first)
+  unfoldable pub successors_from : Square → Bool → ℕ → ℕ → ℕ → ℕ → ℕ → ℕ → Checked
+  successors_from reach empty limit first zero e at sum = cond (leb sum limit) (Ok tt) (refuse reason.SumTooLarge first)
   successors_from reach empty limit first (suc n) e at sum =
-      let o : Outcome = successor_outcome reach empty (get_or m.edges e 0) m.zones contained whole k (number_of (get_or words at 0)) at in
-      or_else o.finding (successors_from reach empty limit first n (suc e) (suc at) (sum + o.share))
+      and_then (successor_share reach empty (get_or m.edges e 0) m.zones contained whole k (number_of (get_or words at 0)) at) (λ share.
+      successors_from reach empty limit first n (suc e) (suc at) (sum + share))
 
   -- n rows from the action a and the place `at` on, of a node of that value
-  unfoldable pub rows_from : Square → ℕ → ℕ → ℕ → ℕ → Finding
-  rows_from waited value zero a at = finding.None
+  unfoldable pub rows_from : Square → ℕ → ℕ → ℕ → ℕ → Checked
+  rows_from waited value zero a at = Ok tt
   rows_from waited value (suc n) a at =
       let reach : Square = common waited (zone_at m.zones (guards_at + a)) in
       let edges : ℕ = edges_at m.index a in
       cond (is_table blocked (get_or words at 0))
-      (cond (empty? reach) (rows_from waited value n (suc a) (suc at)) (finding.NotBlocked at))
-      (or_else (successors_from reach (empty? reach) (m.index.denominator * value) at edges (get_or m.index.edges a 0) at 0)
-      (rows_from waited value n (suc a) (at + edges)))
+      (cond (empty? reach) (rows_from waited value n (suc a) (suc at)) (refuse reason.NotBlocked at))
+      (and_then (successors_from reach (empty? reach) (m.index.denominator * value) at edges (get_or m.index.edges a 0) at 0) (λ _.
+      rows_from waited value n (suc a) (at + edges)))
 
   -- the rows of the node N numbered n
-  unfoldable pub rows_finding : ℕ → NodeEntry → Finding
-  rows_finding n N =
+  unfoldable pub rows_checked : ℕ → NodeEntry → Checked
+  rows_checked n N =
       let l : ℕ = N.location in
       let first : ℕ = get_or m.index.actions l 0 in
       rows_from (waited_square (zone_at k.zones n) (zone_at m.zones l)) N.value (get_or m.index.actions (l + 1) 0 - first) first
       (suc N.place)
 
   -- the node n
-  unfoldable pub node_finding : ℕ → Finding
-  node_finding n =
+  unfoldable pub node_checked : ℕ → Checked
+  node_checked n =
       let N : NodeEntry = entry_at k.nodes n in
       let behind : ℕ = suc N.place in
       cond (get_or m.index.targets N.location false)
-      (cond (eqb N.value whole) finding.None (finding.BadTargetValue N.place))
-      (cond (is_table cut (get_or words behind 0)) (cut_finding words k n N behind) (rows_finding n N))
+      (cond (eqb N.value whole) (Ok tt) (refuse reason.BadTargetValue N.place))
+      (cond (is_table cut (get_or words behind 0)) (cut_checked words k n N behind) (rows_checked n N))
 
   -- so many nodes from number n on
-  unfoldable pub nodes_from : ℕ → ℕ → Finding
-  nodes_from zero n = finding.None
-  nodes_from (suc c) n = or_else (node_finding n) (nodes_from c (suc n))
+  unfoldable pub nodes_from : ℕ → ℕ → Checked
+  nodes_from zero n = Ok tt
+  nodes_from (suc c) n = and_then (node_checked n) (λ _. nodes_from c (suc n))
 
 -- all of them
-unfoldable pub walked : List ℕ → ModelKept → List Bool → TableKept → TableRead → Finding
+abbrev pub walked : List ℕ → ModelKept → List Bool → TableKept → TableRead → Checked
 walked words m contained k t = nodes_from words t.whole m contained k t.count 0
 
 -- ---- what the walk asks: every word, zone and number that it looks at is there and within its range
@@ -74,6 +73,7 @@ module _ (words : List ℕ) (m : ModelKept) (k : TableKept) where
   -- the guard of the action a and the invariants that its edges land at
   pub record ActionAsked (a : ℕ) : Type 0 where
     pub guard : Tightens 2 (zone_at m.zones (guards_at + a))
+    pub ordered : get_or m.index.edges a 0 ≤ get_or m.index.edges (suc a) 0
     pub lands : (e : ℕ) → get_or m.index.edges a 0 ≤ e → e < get_or m.index.edges (suc a) 0 →
         Tightens 1 (zone_at m.zones (lands_at (get_or m.edges e 0)))
 

@@ -1,7 +1,7 @@
 -- What was read stands for the whole input: nothing is left, or it is too long already. Assumes nothing.
 use Rattle.std.proofs.Common.{◌≡◌, ℕ, ◌+◌, ◌<◌, ◌≤◌, ◌⊎◌, List, ◌++◌, length, Option, Some, None, refl, ap, ◌∙◌, inl, inr, append-nil, length-append, arith}
 use Rattle.std.specs.Io.KnownBytes.{Consumes, IsAtEnd, Appends}
-use Rattle.zone.specs.Checks.{refused}
+use Rattle.answers.specs.Checks.{refused}
 use Rattle.zone.proofs.Integers.{lt-or-ge}
 use Rattle.judge_line.specs.Text.{line_of}
 use Rattle.judge_line.specs.Program.{Prints}

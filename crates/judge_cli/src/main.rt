@@ -14,12 +14,11 @@ fn answer<R: Read, W: Write>(from: &mut R, to: &mut W) -> io::Result<bool>
     ensures { IfOk result (λ read. Answers (R.remaining from.old) read (W.contents to.old) (W.contents to.new)) }
 {
     let mut bytes = [0u8; READ_BYTES];
-    let input = input::read_input(from, &mut bytes);
-    if input.failed {
+    let Ok(count) = input::read_input(from, &mut bytes) else {
         return Ok(false);
-    }
-    let line = program::line_of(&bytes[..input.count]);
-    to.write_all(&line.bytes[..line.count])?;
+    };
+    let line = program::line_of(&bytes[..count]);
+    to.write_all(line.text().as_bytes())?;
     Ok(true)
 }
 

@@ -3,7 +3,7 @@ use Prim.Native.Nat.{ℕ}
 use mathlib.Core.Path.{◌≡◌, refl}
 use mathlib.Core.List.{List, [], ◌∷◌}
 use lib.Dec.{lit≤}
-use Rattle.zone.specs.Checks.{refused, accepted}
+use Rattle.answers.specs.Checks.{refused, accepted}
 use Rattle.judge.proofs.Cases.{cases}
 use Rattle.acceptance.proofs.Exact.{promised}
 use Rattle.judge_line.specs.Bytes.{words_of, table_part, model_part}

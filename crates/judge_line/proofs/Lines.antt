@@ -1,10 +1,13 @@
--- Lines that grow part by part at their end, and the lines of the two answers. Assumes nothing.
-use Prim.Native.Nat.{ℕ}
-use mathlib.Core.Path.{◌≡◌, ◌∙◌}
-use mathlib.Core.List.{List, ◌++◌, append_assoc}
-use Rattle.zone.specs.Checks.{refused, accepted}
+-- Lines that grow part by part at their end are the lines of the two answers. Assumes nothing.
+use Rattle.std.proofs.Common.{◌≡◌, ℕ, ◌<◌, ◌^◌, List, [], ◌++◌, Ok, Err, ◌∙◌, append_assoc}
+use Rattle.std.specs.Fmt as std
+use Rattle.answers.specs.Refusals.{number, answer_of}
+use Rattle.answers.specs.declared.Refusal.{Refusal}
 use Rattle.acceptance.specs.declared.certificate.Certificate.{Certificate}
 use Rattle.judge_line.specs.Text.{accepted_text, refused_text, space, line_feed, decimal, line_of}
+use Rattle.judge_line.specs.Printed.{shown}
+use Rattle.judge_line.specs.declared.text.Line.{Line}
+use Rattle.judge_line.proofs.Decimals.{in_decimal}
 
 -- parts that are joined from the left are the same joined from the right
 four : (a b c d : List ℕ) → a ++ b ++ c ++ d ≡ a ++ (b ++ (c ++ d))
@@ -17,17 +20,22 @@ seven : (a b c d e f g : List ℕ) → a ++ b ++ c ++ d ++ e ++ f ++ g ≡ a ++ 
 seven a b c d e f g =
     append_assoc (a ++ b ++ c ++ d ++ e) f g ∙ append_assoc (a ++ b ++ c ++ d) e (f ++ g) ∙ five a b c d (e ++ (f ++ g))
 
-pub refused-text :
-    (number place : ℕ) {a b c d e : List ℕ} → a ≡ refused_text ++ space → b ≡ a ++ decimal number → c ≡ b ++ space →
-    d ≡ c ++ decimal place → e ≡ d ++ line_feed → e ≡ line_of (refused number place)
-unfolding line_of
-refused-text number place p q r s t =
-    rw (t, s, r, q, p) (five (refused_text ++ space) (decimal number) space (decimal place) line_feed)
-
-pub accepted-text :
-    (k : Certificate) {a b c d e f g : List ℕ} → a ≡ accepted_text ++ space → b ≡ a ++ decimal k.b → c ≡ b ++ space →
-    d ≡ c ++ decimal k.whole → e ≡ d ++ space → f ≡ e ++ decimal k.nodes → g ≡ f ++ line_feed → g ≡ line_of (accepted k)
-unfolding line_of
-accepted-text k p q r s t u v =
-    rw (v, u, t, s, r, q, p)
+-- `ACCEPTED b whole nodes` and a line feed
+pub accepted_shown :
+    (line : Line) (k : Certificate) {o a b c d e f g : List ℕ} → line.0 ≡ Ok k → k.b < 2 ^ 64 → k.whole < 2 ^ 64 → k.nodes < 2 ^ 64 →
+    o ≡ [] → a ≡ o ++ (accepted_text ++ space) → b ≡ a ++ std.decimal k.b → c ≡ b ++ space → d ≡ c ++ std.decimal k.whole →
+    e ≡ d ++ space → f ≡ e ++ std.decimal k.nodes → g ≡ f ++ line_feed → g ≡ shown line
+unfolding line_of answer_of
+accepted_shown line k same hb hw hn n p q r s t u v =
+    rw (v, u, t, s, r, q, p, n, same, in_decimal k.b hb, in_decimal k.whole hw, in_decimal k.nodes hn)
     (seven (accepted_text ++ space) (decimal k.b) space (decimal k.whole) space (decimal k.nodes) line_feed)
+
+-- `REFUSED number place` and a line feed
+pub refused_shown :
+    (line : Line) (r : Refusal) (told : ℕ) {o a b c d e : List ℕ} → line.0 ≡ Err r → told ≡ number r.reason → told < 2 ^ 64 →
+    r.place < 2 ^ 64 → o ≡ [] → a ≡ o ++ (refused_text ++ space) → b ≡ a ++ std.decimal told → c ≡ b ++ space →
+    d ≡ c ++ std.decimal r.place → e ≡ d ++ line_feed → e ≡ shown line
+unfolding line_of answer_of
+refused_shown line r told same is hn hp n p q s t u =
+    rw (u, t, s, q, p, n, same, in_decimal told hn, in_decimal r.place hp, is)
+    (five (refused_text ++ space) (decimal (number r.reason)) space (decimal r.place) line_feed)

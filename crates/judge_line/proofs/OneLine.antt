@@ -2,8 +2,8 @@
 use Prim.Native.Nat.{ℕ}
 use mathlib.Core.Path.{◌≡◌, sym, ap, ◌∙◌}
 use mathlib.Core.List.{List}
-use Rattle.zone.specs.Checks.{Answer}
-use Rattle.zone.proofs.CheckLaws.{first_one}
+use Rattle.answers.specs.Checks.{Answer}
+use Rattle.answers.proofs.CheckLaws.{first_one}
 use Rattle.acceptance.specs.declared.certificate.Certificate.{Certificate}
 use Rattle.judge_line.specs.Text.{line_of}
 use Rattle.judge_line.specs.Program.{program_checks, ProgramAnswers, Prints}

@@ -31,11 +31,11 @@ module _ (list : List ℕ) (at : ℕ) (same : table_part list ≡ table_part (dr
   passed h e = same ∙ rw (add-one, drop-cons list at 0 h) (simp (ne_eqb _ _ e))
 
   -- the end: no table
-  pub nothing : length list ≤ at → take (length list - at) (drop at list) ≡ table_part list
+  pub nothing : length list ≤ at → [] ≡ table_part list
   unfolding table_part
-  nothing h = whole list at ∙ ends ∙ sym same
+  nothing h = ends ∙ sym same
     where
-      ends : drop at list ≡ table_part (drop at list)
+      ends : [] ≡ table_part (drop at list)
       ends = simp (drop_of_length-le list h)
 
 -- the two parts, one after the other

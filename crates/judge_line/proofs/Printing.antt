@@ -4,17 +4,18 @@ use mathlib.Core.Path.{◌≡◌, refl, sym, ap, subst, ◌∙◌}
 use mathlib.Core.Logic.{inl, inr}
 use mathlib.Core.List.{List}
 use native.Mathlib.Omega.{arith}
-use borrow.Author.Tests.{eq-eqb, ne_eqb}
+use borrow.Author.Tests.{eq-eqb}
 use lib.Dec.{T, leb→le, le→leb, eqb→eq}
 use lib.ListN.{length, take}
-use Rattle.zone.specs.Checks.{Answer, refused, accepted}
+use Rattle.std.specs.Prelude.{Err}
+use Rattle.answers.specs.Checks.{Answer, refused}
+use Rattle.answers.specs.Refusals.{number, answer_of}
+use Rattle.answers.specs.declared.Reason.{Reason}
+use Rattle.answers.specs.declared.Refusal.{Refusal}
 use Rattle.acceptance.specs.Judging.{Judged, BoundsSchedulers}
-use Rattle.judge.proofs.Numbering.{numbered_answer}
 use Rattle.acceptance.specs.declared.certificate.Certificate.{Certificate}
-use Rattle.judge.specs.declared.numbers.Numbered.{Numbered}
 use Rattle.judge_line.specs.Bytes.{words_of, table_part}
-use Rattle.judge_line.specs.Text.{line_of}
-use Rattle.judge_line.specs.Program.{model_in, table_in, program_checks, ProgramAnswers, Prints}
+use Rattle.judge_line.specs.Program.{model_in, table_in, program_checks, ProgramAnswers}
 use Rattle.judge_line.proofs.PartLaws.{before-table}
 
 module _ (bytes : List ℕ) where
@@ -35,24 +36,19 @@ module _ (bytes : List ℕ) where
     unfolding program_checks
     program-answers w answer j b = record { says = inl (le→leb _ _ h, inl (subst T (sym (eq-eqb _ _ w)) tt, j.says)); bounds = b }
 
--- a line of an answer, with the answer in numbers
-module _ {bytes line : List ℕ} (told : Numbered) (answers : ProgramAnswers bytes (numbered_answer told)) where
-  pub prints-refused : (told.number ≡ 0 → ⊥) → line ≡ line_of (refused told.number told.place) → Prints bytes line
-  unfolding numbered_answer
-  prints-refused n e = record { answer = numbered_answer told; answers = answers; prints = rw (ne_eqb _ _ n) e }
-
-  pub prints-accepted : told.number ≡ 0 → line ≡ line_of (accepted told.certificate) → Prints bytes line
-  unfolding numbered_answer
-  prints-accepted z e = record { answer = numbered_answer told; answers = answers; prints = rw (eq-eqb _ _ z) e }
+-- a refusal with place 0
+pub refuses : (bytes : List ℕ) (r : Refusal) (reason : Reason) → r.reason ≡ reason → r.place ≡ 0 → ProgramAnswers bytes (refused (number reason) 0) →
+    ProgramAnswers bytes (answer_of (Err r))
+unfolding answer_of
+refuses bytes r reason e p a = rw (e, p) a
 
 -- what is judged are the two parts of the words
-pub answers-told : (bytes list table : List ℕ) → length bytes ≤ 65536 → length bytes % 4 ≡ 0 → list ≡ words_of bytes → table ≡ table_part list →
-    (answer : Answer Certificate) → Judged (take (length list - length table) list) table answer →
-    BoundsSchedulers (take (length list - length table) list) answer → (told : Numbered) → numbered_answer told ≡ answer →
-    ProgramAnswers bytes (numbered_answer told)
-answers-told bytes list table h w words part answer j b told e =
+pub answers-verdict : (bytes list table : List ℕ) (answer : Answer Certificate) → length bytes ≤ 65536 → length bytes % 4 ≡ 0 →
+    list ≡ words_of bytes → table ≡ table_part list → Judged (take (length list - length table) list) table answer →
+    BoundsSchedulers (take (length list - length table) list) answer → ProgramAnswers bytes answer
+answers-verdict bytes list table answer h w words part j b =
     let t : table ≡ table_in bytes = part ∙ ap table_part words in
     let m : take (length list - length table) list ≡ model_in bytes = rw (t, words) (before-table (words_of bytes)) in
-    rw e (program-answers bytes h w answer
+    program-answers bytes h w answer
     (subst (λ (l : List ℕ). Judged (model_in bytes) l answer) t (subst (λ (l : List ℕ). Judged l table answer) m j))
-    (subst (λ (l : List ℕ). BoundsSchedulers l answer) m b))
+    (subst (λ (l : List ℕ). BoundsSchedulers l answer) m b)

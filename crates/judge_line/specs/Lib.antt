@@ -2,4 +2,4 @@
 pub mod Bytes
 pub mod Text
 pub mod Program
-pub mod Filling
+pub mod Printed

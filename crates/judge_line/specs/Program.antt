@@ -1,6 +1,6 @@
 -- Document 01, "The four calls and their refusals": the program, from the bytes that it reads to the line that it prints. Assumes nothing.
 use Rattle.std.specs.Prelude.{ℕ, ◌%◌, ◌≡◌, List, ◌∷◌, eqb, leb, length}
-use Rattle.zone.specs.Checks.{Answer, Check, test, First}
+use Rattle.answers.specs.Checks.{Answer, Check, test, First}
 use Rattle.model.specs.Model.{model_of}
 use Rattle.table.specs.Table.{table_of}
 use Rattle.acceptance.specs.Judging.{judge_checks, certificate_of, BoundsSchedulers}

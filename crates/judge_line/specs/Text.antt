@@ -1,6 +1,6 @@
 -- Document 01, "The four calls and their refusals": the line that the program prints, as ASCII codes. Assumes nothing.
 use Rattle.std.specs.Prelude.{ℕ, zero, suc, ◌+◌, ◌/◌, ◌%◌, List, [], ◌∷◌, ◌++◌}
-use Rattle.zone.specs.Checks.{Answer, refused, accepted}
+use Rattle.answers.specs.Checks.{Answer, refused, accepted}
 use Rattle.acceptance.specs.declared.certificate.Certificate.{Certificate}
 
 -- ACCEPTED, REFUSED, a space and a line feed

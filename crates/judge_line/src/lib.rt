@@ -3,5 +3,5 @@
 
 pub mod words; // words.rt: the words of the bytes
 mod parts; // parts.rt: which of the words are the table
-pub mod text; // text.rt: a line of text, and the line of an answer
+pub mod text; // text.rt: the line of an answer
 pub mod program; // program.rt: the line of a file

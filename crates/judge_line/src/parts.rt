@@ -5,16 +5,14 @@ ghost use Rattle.judge_line.specs.Bytes.{table_part};
 use model::kinds;
 use zone::words;
 
-// The part of the words that begins with the first of kind 7, or nothing.
+/// The part of the words that begins with the first of kind 7, or nothing.
 pub(crate) fn table_part(list: &[u32]) -> &[u32]
     ensures { result.now ≡ table_part list.now }
 {
-    let mut at: usize = 0;
-    while at < list.len() {
-        if words::kind_of(list[at]) == kinds::TABLE_HEAD {
+    for (at, word) in list.iter().enumerate() {
+        if words::kind_of(*word) == kinds::TABLE_HEAD {
             return &list[at..];
         }
-        at += 1;
     }
-    &list[at..]
+    &[]
 }

@@ -9,10 +9,10 @@ use lib.Dec.{T}
 use lib.ListN.{length, drop}
 use Rattle.zone.specs.Scale.{within, Empty, Inside}
 use Rattle.zone.specs.Words.{zone_of}
-use Rattle.zone.specs.Checks.{Answer}
+use Rattle.answers.specs.Checks.{Answer}
 use Rattle.zone.specs.Questions.{clock_check, bound_checks, AskedEmpty, AskedInside}
 use Rattle.zone.proofs.Integers.{lt-or-ge}
-use Rattle.zone.proofs.CheckLaws.{first_one, one_bool}
+use Rattle.answers.proofs.CheckLaws.{first_one, one_bool}
 use Rattle.model.specs.Reading.{model_checks, counts_of, ReadModel}
 use Rattle.acceptance.proofs.Exact.{judged-only}
 use Rattle.drafting.proofs.OneDraft.{drafted-one}

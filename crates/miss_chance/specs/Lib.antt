@@ -1,3 +1,2 @@
--- The definitions that the contracts of `miss_chance` rest on: an answer in four words of a slice, then how the code holds them.
+-- The definitions that the contracts of `miss_chance` rest on: an answer in four words of a slice.
 pub mod Replies
-pub mod Held

@@ -1,7 +1,7 @@
 -- Document 01, "The four calls and their refusals", and document 02, card 5, for C and Rust: how an answer stands in four words of a slice that the
 -- caller lends. Assumes nothing.
 use Rattle.std.specs.Prelude.{ℕ, ◌<◌, ◌≤◌, ◌≡◌, Bool, true, false, List, [], ◌∷◌, ◌++◌, length, drop}
-use Rattle.zone.specs.Checks.{Answer, refused, accepted}
+use Rattle.answers.specs.Checks.{Answer, refused, accepted}
 use Rattle.model.specs.declared.read.Counts.{Counts}
 use Rattle.acceptance.specs.Judging.{Judged, Exactly, BoundsSchedulers}
 use Rattle.acceptance.specs.declared.certificate.Certificate.{Certificate}

@@ -20,54 +20,41 @@ use model::read;
 use slots::Slot;
 use zone::questions;
 
-// Judges a table against a model.
+/// Judges a table against a model.
 pub fn miss_chance_judge(model: &[u32], table: &[u32], answer: &mut [u64]) -> bool
     ensures { Replies (Verdicts model.now table.now) certificate_words answer.old answer.new result }
 {
-    if answer.len() < 4 {
-        return false;
-    }
-    replies::put(replies::of_verdict(verdict::judge(model, table)), answer);
-    true
+    replies::answered(answer, || verdict::judge(model, table))
 }
 
-// Drafts a table for a model into the words lent for it, with values after so many rounds. A refusal leaves them as they are.
+/// Drafts a table for a model into the words lent for it, with values after so many rounds. A refusal leaves them as they are.
+#[tactic(auto, using(crate::proofs::ReplyLaws::draft_not_written, crate::proofs::ReplyLaws::draft_written))]
 pub fn miss_chance_draft(model: &[u32], rounds: u64, table: &mut [u32], answer: &mut [u64]) -> bool
     ensures { RepliesDraft model.now rounds table.old table.new answer.old answer.new result }
 {
+    // kept: of a closure that holds `table` and is not called, no clause says that `table` stays as it is
     if answer.len() < 4 {
         return false;
     }
-    replies::put(replies::of_draft(call::draft(model, rounds, table)), answer);
+    replies::put(call::draft(model, rounds, table), answer);
     true
 }
 
-// Reads a model.
+/// Reads a model.
 pub fn miss_chance_read_model(model: &[u32], answer: &mut [u64]) -> bool
     ensures { Replies (ReadModel model.now) counts_words answer.old answer.new result }
 {
-    if answer.len() < 4 {
-        return false;
-    }
-    replies::put(replies::of_model(read::read_model(model)), answer);
-    true
+    replies::answered(answer, || read::read_model(model))
 }
 
-// Asks whether a zone is empty at every scale.
+/// Asks whether a zone is empty at every scale.
 pub fn miss_chance_zone_empty(clocks: u32, zone: &[u32], answer: &mut [u64]) -> bool
     ensures { Replies (AskedEmpty clocks zone.now) yes_words answer.old answer.new result }
 {
-    if answer.len() < 4 {
-        return false;
-    }
-    replies::put(
-        replies::of_emptiness(questions::zone_empty(clocks, zone)),
-        answer,
-    );
-    true
+    replies::answered(answer, || questions::zone_empty(clocks, zone))
 }
 
-// Asks whether the first zone lies inside the second at every scale.
+/// Asks whether the first zone lies inside the second at every scale.
 pub fn miss_chance_zone_inside(
     clocks: u32,
     first: &[u32],
@@ -76,17 +63,10 @@ pub fn miss_chance_zone_inside(
 ) -> bool
     ensures { Replies (AskedInside clocks first.now second.now) yes_words answer.old answer.new result }
 {
-    if answer.len() < 4 {
-        return false;
-    }
-    replies::put(
-        replies::of_inclusion(questions::zone_inside(clocks, first, second)),
-        answer,
-    );
-    true
+    replies::answered(answer, || questions::zone_inside(clocks, first, second))
 }
 
-// Submits a table for a slot. A submission that gets as far as the judge spends one of the allowance, and an accepted one writes the slot.
+/// Submits a table for a slot. A submission that gets as far as the judge spends one of the allowance, and an accepted one writes the slot.
 pub fn miss_chance_submit(
     slots: &mut [Slot],
     ledger: Ledger,
@@ -98,11 +78,13 @@ pub fn miss_chance_submit(
 {
     let lent = slots::load(slots);
     let decision = submissions::decide(lent, ledger, request, model, table);
-    slots::put(slots, decision.at, decision.slot);
+    if let Some(written) = decision.write {
+        slots::put(slots, written.at, written.slot);
+    }
     decision.submitted
 }
 
-// The held slots in rank.
+/// The held slots in rank.
 pub fn miss_chance_rank(slots: &[Slot]) -> Ranking
     ensures { Ranks slots.now result }
 {

@@ -1,136 +1,98 @@
 // Each answer as the four words that a C or Rust caller gets.
-ghost use Rattle.std.specs.Prelude.{◌≡◌, ◌≤◌, ◌∷◌, ◌++◌, length, drop};
-ghost use Rattle.zone.specs.Questions.{emptiness_answer, inclusion_answer};
-ghost use Rattle.model.specs.Reading.{model_answer};
-ghost use Rattle.judge.specs.Verdicts.{verdict_answer};
-ghost use Rattle.draft.specs.Answers.{draft_answer};
+ghost use Rattle.std.specs.Prelude.{ℕ, ◌≡◌, ◌<◌, ◌≤◌, true, false, List, [], ◌∷◌, ◌++◌, length, drop, Result};
+ghost use Rattle.answers.specs.declared.Refusal.{Refusal};
+ghost use Rattle.answers.specs.Refusals.{answer_of};
 ghost use Rattle.miss_chance.specs.Replies.{answer_words, certificate_words, counts_words, yes_words, length_words};
-ghost use Rattle.miss_chance.specs.Held.{reply_words, refusal_reply};
 
-use draft::call::DraftAnswer;
-use draft::numbers as drafts;
-use judge::numbers;
-use judge::verdict::Verdict;
-use model::read::ModelAnswer;
-use zone::questions::{Emptiness, Inclusion};
+use acceptance::certificate::Certificate;
+use answers::Refusal;
+use model::read::Counts;
 
-// An answer as four words: the number of a refusal and its place, or 0 and what an acceptance gives. Zeros fill up.
-#[derive(Clone, Copy)]
-pub(crate) struct Reply {
-    pub number: u64,
-    pub first: u64,
-    pub second: u64,
-    pub third: u64,
+/// What an acceptance gives, as the three words behind 0.
+pub(crate) trait Words {
+    ghost values: { Self → List ℕ };
+
+    fn words(self) -> (u64, u64, u64)
+        ensures { values self ≡ result.0 ∷ result.1 ∷ result.2 ∷ [] };
 }
 
-// A refusal: its number, its place, and nothing else.
-pub(crate) fn refusal(number: u64, place: usize) -> Reply
-    ensures { result ≡ refusal_reply number place }
-{
-    Reply {
-        number,
-        first: place as u64,
-        second: 0,
-        third: 0,
+impl Words for Certificate {
+    ghost values = { certificate_words };
+
+    fn words(self) -> (u64, u64, u64) {
+        (u64::from(self.b), u64::from(self.whole), self.nodes as u64)
     }
 }
 
-// The answer yes or no.
-pub(crate) fn answered(yes: bool) -> Reply
-    ensures { reply_words result ≡ 0 ∷ yes_words yes }
-{
-    Reply {
-        number: 0,
-        first: yes as u64,
-        second: 0,
-        third: 0,
+impl Words for Counts {
+    ghost values = { counts_words };
+
+    fn words(self) -> (u64, u64, u64) {
+        (
+            self.locations as u64,
+            self.actions as u64,
+            self.edges as u64,
+        )
     }
 }
 
-// The reply to judging.
-pub(crate) fn of_verdict(verdict: Verdict) -> Reply
-    ensures { reply_words result ≡ answer_words certificate_words (verdict_answer verdict) }
-{
-    let told = numbers::in_numbers(verdict);
-    if told.number != 0 {
-        return refusal(told.number as u64, told.place);
-    }
-    Reply {
-        number: 0,
-        first: told.certificate.b as u64,
-        second: told.certificate.whole as u64,
-        third: told.certificate.nodes as u64,
+// Yes or no.
+impl Words for bool {
+    ghost values = { yes_words };
+
+    fn words(self) -> (u64, u64, u64) {
+        (u64::from(self), 0, 0)
     }
 }
 
-// The reply to drafting a table.
-pub(crate) fn of_draft(answer: DraftAnswer) -> Reply
-    ensures { reply_words result ≡ answer_words length_words (draft_answer answer) }
-{
-    let told = drafts::in_numbers(answer);
-    if told.number != 0 {
-        return refusal(told.number as u64, told.place);
-    }
-    Reply {
-        number: 0,
-        first: told.length as u64,
-        second: 0,
-        third: 0,
+// The length of a draft.
+impl Words for usize {
+    ghost values = { length_words };
+
+    fn words(self) -> (u64, u64, u64) {
+        (self as u64, 0, 0)
     }
 }
 
-// The reply to reading a model.
-pub(crate) fn of_model(answer: ModelAnswer) -> Reply
-    ensures { reply_words result ≡ answer_words counts_words (model_answer answer) }
+/// An answer as four words: the number of a refusal and its place, or 0 and what an acceptance gives. Zeros fill up.
+#[tactic(auto, unfolding(answers::specs::Refusals::answer_of))]
+pub(crate) fn reply<A: Words>(answer: Result<A, Refusal>) -> [u64; 4]
+    ensures { result ≡ answer_words A.values (answer_of answer) }
 {
     match answer {
-        ModelAnswer::Accepted(counts) => Reply {
-            number: 0,
-            first: counts.locations as u64,
-            second: counts.actions as u64,
-            third: counts.edges as u64,
-        },
-        ModelAnswer::BadModelKind(place) => refusal(1, place),
-        ModelAnswer::BadModelField(place) => refusal(2, place),
-        ModelAnswer::OverModelLimit(place) => refusal(3, place),
-        ModelAnswer::BadWeights(place) => refusal(4, place),
-        ModelAnswer::NoLocation(place) => refusal(5, place),
-        ModelAnswer::NoStart(place) => refusal(6, place),
+        Ok(value) => {
+            let (first, second, third) = value.words();
+            [0, first, second, third]
+        }
+        Err(refusal) => [
+            u64::from(refusal.reason.number()),
+            refusal.place as u64,
+            0,
+            0,
+        ],
     }
 }
 
-// The reply to whether a zone is empty.
-pub(crate) fn of_emptiness(answer: Emptiness) -> Reply
-    ensures { reply_words result ≡ answer_words yes_words (emptiness_answer answer) }
-{
-    match answer {
-        Emptiness::Empty => answered(true),
-        Emptiness::NotEmpty => answered(false),
-        Emptiness::BadClocks => refusal(31, 0),
-        Emptiness::BadBound(place) => refusal(32, place),
-    }
-}
-
-// The reply to whether one zone lies inside another.
-pub(crate) fn of_inclusion(answer: Inclusion) -> Reply
-    ensures { reply_words result ≡ answer_words yes_words (inclusion_answer answer) }
-{
-    match answer {
-        Inclusion::Inside => answered(true),
-        Inclusion::NotInside => answered(false),
-        Inclusion::BadClocks => refusal(31, 0),
-        Inclusion::BadBound(place) => refusal(32, place),
-        Inclusion::BadSecondBound(place) => refusal(33, place),
-    }
-}
-
-// Writes a reply to the first four words of the slice.
-pub(crate) fn put(reply: Reply, out: &mut [u64])
+/// Writes an answer to the first four words of a slice.
+pub(crate) fn put<A: Words>(answer: Result<A, Refusal>, out: &mut [u64])
     requires { 4 ≤ length out.old }
-    ensures { out.new ≡ reply_words reply ++ drop 4 out.old }
+    ensures { out.new ≡ answer_words A.values (answer_of answer) ++ drop 4 out.old }
 {
-    out[0] = reply.number;
-    out[1] = reply.first;
-    out[2] = reply.second;
-    out[3] = reply.third;
+    out[..4].copy_from_slice(&reply(answer));
+}
+
+/// Writes what a call answers to the first four words of a slice and says true; where there are fewer it asks nothing, writes nothing and says false.
+pub(crate) fn answered<A: Words, F: FnOnce() -> Result<A, Refusal> + Drop>(
+    out: &mut [u64],
+    call: F,
+) -> bool
+    requires { F.IsAlwaysCallable call }
+    ensures short { length out.old < 4 → (result ≡ false) × (out.new ≡ out.old) }
+    ensures long { 4 ≤ length out.old → (result ≡ true) × ((said : Result A Refusal) × (F.post call said × (out.new ≡ answer_words A.values (answer_of said) ++ drop 4 out.old))) }
+{
+    if out.len() < 4 {
+        return false;
+    }
+    put(call(), out);
+    true
 }

@@ -7,32 +7,35 @@ use mathlib.Core.List.{List, [], ◌∷◌, ◌++◌}
 use native.Mathlib.Omega.{arith}
 use borrow.Author.Tests.{eqb-true, eq-eqb, ne_eqb}
 use lib.Dec.{eqb}
-use lib.IntN.{ℤ}
 use lib.ListN.{get_or, length}
 use Rattle.zone.specs.Words.{kind}
-use Rattle.zone.specs.Checks.{Answer, Check, test, First}
+use Rattle.std.proofs.Common.{Result, Ok, Err}
+use Rattle.answers.specs.Checks.{Answer, Check, test, First}
+use Rattle.answers.specs.Refusals.{answer_of}
+use Rattle.answers.specs.Refusals as refusals
+use Rattle.answers.specs.declared.Reason.{Reason}
+use Rattle.answers.specs.declared.Reason.TheVariants as reason
+use Rattle.answers.specs.declared.Refusal.{Refusal}
 use Rattle.zone.proofs.Bools.{true_false, false_true}
 use Rattle.model.specs.Kinds.{Kind, none, head, location, action, edge, bound, start, number, is, kind_of}
 use Rattle.model.specs.Grammar.{follows?}
 use Rattle.model.specs.Fields.{clocks_of, denominator_of, weight_of, fields?}
 use Rattle.model.specs.Before.{opener_from, count_of}
-use Rattle.model.specs.Reading.{last_edges, weights, limit?, adds?, word_checks, words_checks, model_answer}
-use Rattle.model.specs.Scan.{nothing, fields_at?, limit_at?, adds_at?, fault_at, last_fault, seen_with_kind, seen_with}
-use Rattle.model.specs.Index.{Kept, keep, empty_index, kept_with, Pass, pass_at, unless_fault, scan_from, scanned, fault_answer}
+use Rattle.model.specs.Reading.{last_edges, weights, limit?, adds?, word_checks, words_checks}
+use Rattle.model.specs.Scan.{nothing, fields_at?, limit_at?, adds_at?, checked, checked_end, seen_with_kind, seen_with}
+use Rattle.model.specs.Index.{Kept, keep, empty_index, kept_with, closed, Pass, pass_at, unless_refused, pass_end, scan_from, scanned}
 use Rattle.model.specs.declared.seen.Seen.{Seen}
-use Rattle.model.specs.declared.seen.Fault.{Fault}
-use Rattle.model.specs.declared.seen.Fault.TheVariants as fault
 use Rattle.model.specs.declared.read.Counts.{Counts}
-use Rattle.model.specs.declared.read.ModelAnswer.{ModelAnswer}
-use Rattle.model.proofs.Run.{goes}
+use Rattle.model.proofs.Run.{Run}
 use Rattle.model.proofs.KindLaws.{kind-is, head_first, before-bound}
 use Rattle.model.proofs.Limits.{Passes, passes, first_fault}
+use Rattle.zone.specs.declared.zones.Zone.{Zone as Square}
 
 -- ---- what the words before come to
 
 -- the numbers of what stands before; `before` lists those words, the last one first
 pub record Tallies (before : List ℕ) (s : Seen) : Type 0 where
-  pub opener : s.opener ≡ opener_from (number none) before
+  pub opener : number s.opener ≡ opener_from (number none) before
   pub locations : s.locations ≡ count_of (number location) before
   pub actions : s.actions ≡ count_of (number action) before
   pub edges : s.edges ≡ count_of (number edge) before
@@ -43,7 +46,7 @@ pub record Tallies (before : List ℕ) (s : Seen) : Type 0 where
 pub record Headed (C D : ℕ) (s : Seen) : Type 0 where
   pub clocks : s.clocks ≡ C
   pub denominator : s.denominator ≡ D
-  pub opened : s.opener ≢ number none
+  pub opened : number s.opener ≢ number none
 
 -- s is what the words before come to, in a file whose first word gives C and D
 pub record Agrees (C D : ℕ) (before : List ℕ) (s : Seen) : Type 0 where
@@ -97,29 +100,29 @@ no_run before h = (ap length (no_edges before h), ap weights (no_edges before h)
 
 -- the word is the first and a head, or the head stands before it
 pub data Begins (C D : ℕ) (before : List ℕ) (s : Seen) (n : ℕ) : Type 0 where
-  here : before ≡ [] → s.opener ≡ number none → n ≡ number head → Begins C D before s n
+  here : before ≡ [] → number s.opener ≡ number none → n ≡ number head → Begins C D before s n
   there : Headed C D s → n ≢ number head → Begins C D before s n
 
-pub begins : (C D : ℕ) (before : List ℕ) (s : Seen) (n : ℕ) → Agrees C D before s → follows? s.opener n ≡ true → Begins C D before s n
+pub begins : (C D : ℕ) (before : List ℕ) (s : Seen) (n : ℕ) → Agrees C D before s → follows? (number s.opener) n ≡ true → Begins C D before s n
 unfolding opener_from
 begins C D before s n a f = by a.headed
   where
-    same : eqb s.opener (number none) ≡ eqb n (number head)
-    same = head_first s.opener n f
+    same : eqb (number s.opener) (number none) ≡ eqb n (number head)
+    same = head_first (number s.opener) n f
 
     by : (before ≡ []) ⊎ Headed C D s → Begins C D before s n
     by (inl e) =
-        let o : s.opener ≡ number none = a.tallies.opener ∙ ap (opener_from (number none)) e in
-        here e o (eqb-true n (number head) (sym same ∙ eq-eqb s.opener (number none) o))
+        let o : number s.opener ≡ number none = a.tallies.opener ∙ ap (opener_from (number none)) e in
+        here e o (eqb-true n (number head) (sym same ∙ eq-eqb (number s.opener) (number none) o))
     by (inr h) =
-        let apart : eqb s.opener (number none) ≡ false = ne_eqb s.opener (number none) h.opened in
+        let apart : eqb (number s.opener) (number none) ≡ false = ne_eqb (number s.opener) (number none) h.opened in
         there h λ e. true_false (sym (eq-eqb n (number head) e) ∙ sym same ∙ apart)
 
 tallies-kind : (k : Kind) (before : List ℕ) (s : Seen) (w p : ℕ) → Tallies before s → Passes k s w → Tallies (w ∷ before) (seen_with_kind k s w p)
 unfolding fields? seen_with_kind
 tallies-kind none before s w p h g = false_true g.fields
 tallies-kind head before s w p h g =
-    let first : s.opener ≡ number none = eqb-true s.opener (number none) (head_first s.opener (number head) g.follows) in
+    let first : number s.opener ≡ number none = eqb-true (number s.opener) (number none) (head_first (number s.opener) (number head) g.follows) in
     let zero = no_run before (λ e. omega arith) in
     let a = added head before w g.named in
     omega arith
@@ -127,7 +130,7 @@ tallies-kind location before s w p h g = let a = added location before w g.named
 tallies-kind action before s w p h g = let a = added action before w g.named in omega arith
 tallies-kind edge before s w p h g = let a = added edge before w g.named in omega arith
 tallies-kind bound before s w p h g =
-    let zero = no_run before (λ e. before-bound s.opener g.follows (h.opener ∙ e)) in
+    let zero = no_run before (λ e. before-bound (number s.opener) g.follows (h.opener ∙ e)) in
     let a = added bound before w g.named in
     omega arith
 tallies-kind start before s w p h g = let a = added start before w g.named in omega arith
@@ -154,7 +157,7 @@ headed-kind bound C D before s w p g first b = head-before b (λ n. omega arith)
 headed-kind start C D before s w p g first b = let h = head-before b (λ n. omega arith) in omega arith
 
 pub agrees_with :
-    (C D : ℕ) (before : List ℕ) (s : Seen) (w p : ℕ) → Agrees C D before s → fault_at s w ≡ fault.None → Heads C D before w →
+    (C D : ℕ) (before : List ℕ) (s : Seen) (w p : ℕ) → Agrees C D before s → checked s w ≡ Ok tt → Heads C D before w →
     Agrees C D (w ∷ before) (seen_with s w p)
 unfolding seen_with
 agrees_with C D before s w p a f first =
@@ -196,72 +199,63 @@ same-fault false b c d a' b' c' d' e f h = rw (← e)
 
 fault-is :
     (C D : ℕ) (before : List ℕ) (s : Seen) (w : ℕ) → Agrees C D before s →
-    fault_at s w ≡ first_fault (kind? C D before w) (field? C D before w) (under? C D before w) (sum? C D before w)
-unfolding fault_at limit_at?
+    checked s w ≡ first_fault (kind? C D before w) (field? C D before w) (under? C D before w) (sum? C D before w)
+unfolding checked limit_at?
 fault-is C D before s w a =
     let t = a.tallies in
-    same-fault (follows? s.opener (kind w)) (fields_at? s w) (limit_at? s w) (adds_at? s w) (kind? C D before w) (field? C D before w)
+    same-fault (follows? (number s.opener) (kind w)) (fields_at? s w) (limit_at? s w) (adds_at? s w) (kind? C D before w) (field? C D before w)
     (under? C D before w) (sum? C D before w) (cc) (cc) λ f. same_tests C D before s w t (begins C D before s (kind w) a f)
 
 -- ---- the pass
 
 -- the answer of a pass, if `whole` is that on the whole file
-unfoldable pub answer_of : Fault → ℕ → ModelAnswer → ModelAnswer
-answer_of fault.None p whole = whole
-answer_of fault.Kind p whole = fault_answer fault.Kind p
-answer_of fault.Field p whole = fault_answer fault.Field p
-answer_of fault.Limit p whole = fault_answer fault.Limit p
-answer_of fault.Weights p whole = fault_answer fault.Weights p
+unfoldable pub answer_behind : Result Seen Refusal → Answer Counts → Answer Counts
+answer_behind (Ok s) whole = whole
+answer_behind (Err r) whole = answer_of (Err r)
 
-abbrev answered : ModelAnswer → Pass → Answer Counts
-answered whole r = model_answer (answer_of r.fault r.place whole)
-
-module _ (more : List Check) (P : Counts → Type 0) (whole : ModelAnswer) where
+module _ (more : List Check) (P : Counts → Type 0) (whole : Answer Counts) where
   -- at a word
   step-first :
-      (a b c d : Bool) (f : Fault) → f ≡ first_fault a b c d → (s : Seen) (k : Kept) (p : ℕ) (go : Pass) →
-      (f ≡ fault.None → First more P (answered whole go)) →
-      First (test 1 p a ∷ test 2 p b ∷ test 3 p c ∷ test 4 p d ∷ more) P (answered whole (unless_fault f (pass_at f p s k) go))
-  unfolding unless_fault answer_of fault_answer model_answer
-  step-first true true true true f e s k p go h = rw e (inl (tt, inl (tt, inl (tt, inl (tt, h e)))))
-  step-first true true true false f e s k p go h = rw e (inl (tt, inl (tt, inl (tt, inr (λ t. t, refl)))))
-  step-first true true false d f e s k p go h = rw e (inl (tt, inl (tt, inr (λ t. t, refl))))
-  step-first true false c d f e s k p go h = rw e (inl (tt, inr (λ t. t, refl)))
-  step-first false b c d f e s k p go h = rw e (inr (λ t. t, refl))
+      (a b c d : Bool) (f : Result (Unit {0}) Reason) → f ≡ first_fault a b c d → (p : ℕ) (k : Kept) (go : Pass) →
+      (f ≡ Ok tt → First more P (answer_behind go.outcome whole)) →
+      First (test 1 p a ∷ test 2 p b ∷ test 3 p c ∷ test 4 p d ∷ more) P (answer_behind (unless_refused f p k go).outcome whole)
+  unfolding unless_refused answer_behind answer_of refusals.number
+  step-first true true true true f e p k go h = rw e (inl (tt, inl (tt, inl (tt, inl (tt, h e)))))
+  step-first true true true false f e p k go h = rw e (inl (tt, inl (tt, inl (tt, inr (λ t. t, refl)))))
+  step-first true true false d f e p k go h = rw e (inl (tt, inl (tt, inr (λ t. t, refl))))
+  step-first true false c d f e p k go h = rw e (inl (tt, inr (λ t. t, refl)))
+  step-first false b c d f e p k go h = rw e (inr (λ t. t, refl))
 
   -- at the end
   last-first :
-      (c : Bool) (f : Fault) → f ≡ cond c fault.None fault.Kind → (p : ℕ) → (f ≡ fault.None → First more P (model_answer whole)) →
-      First (test 1 p c ∷ more) P (model_answer (answer_of f p whole))
-  unfolding answer_of fault_answer model_answer
-  last-first true f e p h = rw e (inl (tt, h e))
-  last-first false f e p h = rw e (inr (λ t. t, refl))
+      (c : Bool) (f : Result (Unit {0}) Reason) → f ≡ cond c (Ok tt) (Err reason.BadModelKind) → (p : ℕ) (s : Seen) (k : Kept) →
+      (f ≡ Ok tt → First more P whole) → First (test 1 p c ∷ more) P (answer_behind (unless_refused f p k (pass_at (Ok s) k)).outcome whole)
+  unfolding unless_refused answer_behind answer_of refusals.number
+  last-first true f e p s k h = rw e (inl (tt, h e))
+  last-first false f e p s k h = rw e (inr (λ t. t, refl))
 
 words-from :
     (C D : ℕ) (before words : List ℕ) (s : Seen) (k : Kept) → Agrees C D before s → Heads C D before (get_or words 0 0) →
-    (more : List Check) (P : Counts → Type 0) (whole : ModelAnswer) →
-    ((scan_from s k (length before) words).fault ≡ fault.None → First more P (model_answer whole)) →
-    First (words_checks C D before words ++ more) P (answered whole (scan_from s k (length before) words))
-unfolding scan_from words_checks word_checks last_fault
+    (more : List Check) (P : Counts → Type 0) (whole : Answer Counts) → (Run s (length before) words → First more P whole) →
+    First (words_checks C D before words ++ more) P (answer_behind (scan_from s k (length before) words).outcome whole)
+unfolding scan_from pass_end words_checks word_checks checked_end
 words-from C D before [] s k a first more P whole h =
-    last-first more P whole (eqb (opener_from (number none) before) (number start)) (last_fault s) (rw a.tallies.opener) (length before) h
+    last-first more P whole (eqb (opener_from (number none) before) (number start)) (checked_end s) (rw a.tallies.opener) (length before) s
+    (keep (closed s k.index) k.edges k.zones) h
 words-from C D before (w ∷ ws) s k a first more P whole h =
     let p : ℕ = length before in
-    let go : Pass = scan_from (seen_with s w p) (kept_with s w k) (suc p) ws in
     step-first (words_checks C D (w ∷ before) ws ++ more) P whole (kind? C D before w) (field? C D before w) (under? C D before w)
-    (sum? C D before w) (fault_at s w) (fault-is C D before s w a) s k p go λ f.
+    (sum? C D before w) (checked s w) (fault-is C D before s w a) p k (scan_from (seen_with s w p) (kept_with s w k) (suc p) ws) λ f.
     words-from C D (w ∷ before) ws (seen_with s w p) (kept_with s w k) (agrees_with C D before s w p a f first)
-    (λ e. absurd (omega (arith, ap length e))) more P whole
-    λ g. h (ap (λ (r : Pass). r.fault) (goes (fault_at s w) (pass_at (fault_at s w) p s k) go f) ∙ g)
+    (λ e. absurd (omega (arith, ap length e))) more P whole (λ r. h (f, r))
 
 -- the checks 1 to 4 of a file
 abbrev pub checks_of : List ℕ → List Check
 checks_of words = words_checks (clocks_of (get_or words 0 0)) (denominator_of (get_or words 0 0)) [] words
 
 pub words-first :
-    (words es : List ℕ) (zs : List ℤ) (more : List Check) (P : Counts → Type 0) (whole : ModelAnswer) →
-    ((scanned words es zs).fault ≡ fault.None → First more P (model_answer whole)) →
-    First (checks_of words ++ more) P (model_answer (answer_of (scanned words es zs).fault (scanned words es zs).place whole))
+    (words es : List ℕ) (zs : List Square) (more : List Check) (P : Counts → Type 0) (whole : Answer Counts) → (Run nothing 0 words → First more P whole) →
+    First (checks_of words ++ more) P (answer_behind (scanned words es zs).outcome whole)
 unfolding scanned
 words-first words es zs =
     words-from (clocks_of (get_or words 0 0)) (denominator_of (get_or words 0 0)) [] words nothing (keep empty_index es zs) (agrees-nothing _ _)

@@ -8,16 +8,16 @@ use native.Mathlib.Omega.{arith}
 use borrow.Author.Tests.{ltb-true, eqb-true}
 use lib.Dec.{eqb}
 use lib.ListN.{get_or, length}
+use Rattle.std.proofs.Common.{Ok}
 use Rattle.zone.specs.Words.{bits, kind}
 use Rattle.zone.proofs.Bools.{false_true, right_true}
 use Rattle.model.specs.Kinds.{Kind, none, head, location, action, edge, bound, start, number, is, kind_of}
 use Rattle.model.specs.Fields.{clocks_of, denominator_of, fields?}
 use Rattle.model.specs.Before.{opener_from, count_of, index_of}
 use Rattle.model.specs.Reading.{counts_of}
-use Rattle.model.specs.Scan.{nothing, fault_at, last_fault, seen_with_kind, seen_with}
+use Rattle.model.specs.Scan.{nothing, checked, checked_end, seen_with_kind, seen_with}
 use Rattle.model.specs.Index.{counts_at}
 use Rattle.model.specs.declared.seen.Seen.{Seen}
-use Rattle.model.specs.declared.seen.Fault.TheVariants as fault
 use Rattle.model.proofs.Run.{Run, seen_end}
 use Rattle.model.proofs.KindLaws.{kind-is, after-start}
 use Rattle.model.proofs.Limits.{Passes, passes, all_pass}
@@ -45,11 +45,11 @@ unfolding count_of
 count_reversed n words = count-onto n words [] ∙ omega arith
 
 -- a pass without a fault ends behind the start
-pub ends : (s : Seen) → last_fault s ≡ fault.None → s.opener ≡ number start
-unfolding last_fault
-ends s h = eqb-true s.opener (number start) (all_pass (eqb s.opener (number start)) true true true h).0
+pub ends : (s : Seen) → checked_end s ≡ Ok tt → number s.opener ≡ number start
+unfolding checked_end
+ends s h = eqb-true (number s.opener) (number start) (all_pass (eqb (number s.opener) (number start)) true true true h).0
 
-run_ends : (s : Seen) (p : ℕ) (words : List ℕ) → Run s p words → (seen_end s p words).opener ≡ number start
+run_ends : (s : Seen) (p : ℕ) (words : List ℕ) → Run s p words → number (seen_end s p words).opener ≡ number start
 unfolding seen_end
 run_ends s p [] r = ends s r
 run_ends s p (w ∷ ws) r = run_ends (seen_with s w p) (suc p) ws r.1
@@ -57,17 +57,17 @@ run_ends s p (w ∷ ws) r = run_ends (seen_with s w p) (suc p) ws r.1
 -- ---- the start
 
 -- behind the start only a bound may stand, and it changes nothing
-bound-stays : (s : Seen) (w p : ℕ) → s.opener ≡ number start → fault_at s w ≡ fault.None → seen_with s w p ≡ s
+bound-stays : (s : Seen) (w p : ℕ) → number s.opener ≡ number start → checked s w ≡ Ok tt → seen_with s w p ≡ s
 unfolding seen_with seen_with_kind
 bound-stays s w p o f =
     let g = passes s w f in rw (kind-is bound w (g.named ∙ after-start (number (kind_of w)) (rw o at g.follows)))
 
-start-stays : (s : Seen) (p : ℕ) (words : List ℕ) → s.opener ≡ number start → Run s p words → seen_end s p words ≡ s
+start-stays : (s : Seen) (p : ℕ) (words : List ℕ) → number s.opener ≡ number start → Run s p words → seen_end s p words ≡ s
 unfolding seen_end
 start-stays s p [] o r = refl
 start-stays s p (w ∷ ws) o r =
     let same = bound-stays s w p o r.0 in
-    start-stays (seen_with s w p) (suc p) ws (ap (λ (s : Seen). s.opener) same ∙ o) r.1 ∙ same
+    start-stays (seen_with s w p) (suc p) ws (ap (λ (s : Seen). number s.opener) same ∙ o) r.1 ∙ same
 
 -- the start word has the index n, and its location exists
 record Started (s : Seen) (n : ℕ) : Type 0 where
@@ -76,10 +76,10 @@ record Started (s : Seen) (n : ℕ) : Type 0 where
 
 -- with the word w at the place p the words come to `next`: it is the start, or the start is still to come
 data Starts (w p : ℕ) (next : Seen) : Type 0 where
-  now : kind w ≡ number start → next.opener ≡ number start → Started next p → Starts w p next
-  later : is start w ≡ false → next.opener ≢ number start → Starts w p next
+  now : kind w ≡ number start → number next.opener ≡ number start → Started next p → Starts w p next
+  later : is start w ≡ false → number next.opener ≢ number start → Starts w p next
 
-starts : (k : Kind) (s : Seen) (w p : ℕ) → Passes k s w → s.opener ≢ number start → Starts w p (seen_with_kind k s w p)
+starts : (k : Kind) (s : Seen) (w p : ℕ) → Passes k s w → number s.opener ≢ number start → Starts w p (seen_with_kind k s w p)
 unfolding fields? seen_with_kind
 starts none s w p g o = false_true g.fields
 starts head s w p g o = later (rw g.named) λ e. omega arith
@@ -92,13 +92,13 @@ starts start s w p g o =
 
 started_with :
     (w p : ℕ) (ws : List ℕ) (next : Seen) → Starts w p next → Run next (suc p) ws →
-    (next.opener ≢ number start → Started (seen_end next (suc p) ws) (suc p + index_of (number start) ws)) →
+    (number next.opener ≢ number start → Started (seen_end next (suc p) ws) (suc p + index_of (number start) ws)) →
     Started (seen_end next (suc p) ws) (p + index_of (number start) (w ∷ ws))
 unfolding index_of
 started_with w p ws next (now k o h) r rest = rw (start-stays next (suc p) ws o r, k) (omega arith)
 started_with w p ws next (later n o) r rest = let h = rest o in rw n (omega arith)
 
-started : (s : Seen) (p : ℕ) (words : List ℕ) → s.opener ≢ number start → Run s p words →
+started : (s : Seen) (p : ℕ) (words : List ℕ) → number s.opener ≢ number start → Run s p words →
     Started (seen_end s p words) (p + index_of (number start) words)
 unfolding seen_end seen_with
 started s p [] o r = absurd (o (ends s r))

@@ -5,43 +5,40 @@ use mathlib.Core.Bool.{Bool, true, false, not, cond, ◌||◌}
 use mathlib.Core.Logic.{inl, inr}
 use mathlib.Core.List.{List, [], ◌∷◌, ◌++◌}
 use native.Mathlib.Omega.{arith}
-use borrow.Author.Tests.{eqb-true, ltb-true, lt-ltb, ltb-false}
+use borrow.Author.Tests.{eqb-true, ltb-true, lt-ltb}
 use lib.Dec.{ltb}
+use Rattle.std.proofs.Common.{Option, Some, None}
 use Rattle.zone.specs.Words.{kind}
-use Rattle.zone.specs.Checks.{Check, test, First}
+use Rattle.answers.specs.Checks.{Answer, refused, Check, test, First}
 use Rattle.model.specs.Kinds.{Kind, none, head, location, action, edge, bound, start, number, is, kind_of}
 use Rattle.model.specs.Fields.{lands_at}
-use Rattle.model.specs.Reading.{edge_checks, model_answer}
+use Rattle.model.specs.Reading.{edge_checks}
 use Rattle.model.specs.Scan.{nothing, seen_with, seen_with_kind}
-use Rattle.model.specs.Index.{first_missing, missing_of, whole_answer}
+use Rattle.model.specs.Index.{first_missing, missing_of}
 use Rattle.model.specs.declared.seen.Seen.{Seen}
-use Rattle.model.specs.declared.read.Missing.{Missing}
-use Rattle.model.specs.declared.read.Missing.TheVariants as missing
 use Rattle.model.specs.declared.read.Counts.{Counts}
 use Rattle.model.proofs.KindLaws.{kind-is}
 use Rattle.model.proofs.Run.{seen_end}
 
--- ---- refusal 5
+-- ---- refusal 5: f gives the answer to the first edge that leads nowhere
 
--- one word: c says whether it passes, m which edge behind it leads nowhere
-word_first :
-    (c : Bool) (m : Missing) (p : ℕ) (cs : List Check) (P : Counts → Type 0) (empty : Bool) (s : Seen) (X : Type 0) →
-    (cond c m (missing.At p) ≡ missing.None → X) → ((m ≡ missing.None → X) → First cs P (model_answer (whole_answer m empty s))) →
-    First (test 5 p c ∷ cs) P (model_answer (whole_answer (cond c m (missing.At p)) empty s))
-unfolding whole_answer model_answer
-word_first true m p cs P empty s X h rest = inl (tt, rest h)
-word_first false m p cs P empty s X h rest = inr ((λ t. t), refl)
+module _ (P : Counts → Type 0) (f : Option ℕ → Answer Counts) (refuses : (p : ℕ) → f (Some p) ≡ refused 5 p) where
+  -- one word: c says whether it passes, m which edge behind it leads nowhere
+  word_first :
+      (c : Bool) (m : Option ℕ) (p : ℕ) (cs : List Check) (X : Type 0) →
+      (cond c m (Some p) ≡ None → X) → ((m ≡ None → X) → First cs P (f m)) → First (test 5 p c ∷ cs) P (f (cond c m (Some p)))
+  word_first true m p cs X h rest = inl (tt, rest h)
+  word_first false m p cs X h rest = inr ((λ t. t), refuses p)
 
--- the first edge whose location is missing is the one that refusal 5 names
-pub edges-first :
-    (L p : ℕ) (ws : List ℕ) (more : List Check) (P : Counts → Type 0) (empty : Bool) (s : Seen) →
-    (first_missing L p ws ≡ missing.None → First more P (model_answer (whole_answer missing.None empty s))) →
-    First (edge_checks L p ws ++ more) P (model_answer (whole_answer (first_missing L p ws) empty s))
-unfolding first_missing edge_checks
-edges-first L p [] more P empty s h = h refl
-edges-first L p (w ∷ ws) more P empty s h =
-    word_first (not (is edge w) || ltb (lands_at w) L) (first_missing L (suc p) ws) p (edge_checks L (suc p) ws ++ more) P empty s
-    (First more P (model_answer (whole_answer missing.None empty s))) h (edges-first L (suc p) ws more P empty s)
+  -- the first edge whose location is missing is the one that refusal 5 names
+  pub edges-first :
+      (L p : ℕ) (ws : List ℕ) (more : List Check) → (first_missing L p ws ≡ None → First more P (f None)) →
+      First (edge_checks L p ws ++ more) P (f (first_missing L p ws))
+  unfolding first_missing edge_checks
+  edges-first L p [] more h = h refl
+  edges-first L p (w ∷ ws) more h =
+      word_first (not (is edge w) || ltb (lands_at w) L) (first_missing L (suc p) ws) p (edge_checks L (suc p) ws ++ more)
+      (First more P (f None)) h (edges-first L (suc p) ws more)
 
 -- ---- the furthest location that the edges name
 
@@ -53,21 +50,13 @@ module _ (s : Seen) (w p : ℕ) where
   further head = omega arith
   further location = omega arith
   further action = omega arith
-  further edge = by (ltb s.furthest (lands_at w)) (ltb-true s.furthest (lands_at w))
-    where
-      by : (c : Bool) → (c ≡ true → s.furthest < lands_at w) → s.furthest ≤ cond c (lands_at w) s.furthest
-      by true h = let l = h refl in omega arith
-      by false h = omega arith
+  further edge = omega arith
   further bound = omega arith
   further start = omega arith
 
   named : kind_of w ≡ edge → lands_at w ≤ (seen_with s w p).furthest
   unfolding seen_with seen_with_kind
-  named e = rw e (by (ltb s.furthest (lands_at w)) (ltb-false s.furthest (lands_at w)))
-    where
-      by : (c : Bool) → (c ≡ false → lands_at w ≤ s.furthest) → lands_at w ≤ cond c (lands_at w) s.furthest
-      by true h = omega arith
-      by false h = h refl
+  named e = rw e (omega arith)
 
 furthest_end : (s : Seen) (p : ℕ) (ws : List ℕ) → s.furthest ≤ (seen_end s p ws).furthest
 unfolding seen_end seen_with
@@ -78,7 +67,7 @@ furthest_end s p (w ∷ ws) =
     omega arith
 
 -- if it exists, no edge leads nowhere
-none-missing : (L : ℕ) (s : Seen) (p : ℕ) (ws : List ℕ) → (seen_end s p ws).furthest < L → first_missing L p ws ≡ missing.None
+none-missing : (L : ℕ) (s : Seen) (p : ℕ) (ws : List ℕ) → (seen_end s p ws).furthest < L → first_missing L p ws ≡ None
 unfolding first_missing seen_end
 none-missing L s p [] h = refl
 none-missing L s p (w ∷ ws) h =
@@ -96,10 +85,10 @@ pub missing-is : (words : List ℕ) → missing_of (seen_end nothing 0 words) wo
 unfolding missing_of
 missing-is words = searched (seen_end nothing 0 words) (none-missing _ nothing 0 words)
   where
-    by : (c : Bool) (m : Missing) → (c ≡ true → m ≡ missing.None) → cond c missing.None m ≡ m
+    by : (c : Bool) (m : Option ℕ) → (c ≡ true → m ≡ None) → cond c None m ≡ m
     by true m h = sym (h refl)
     by false m h = refl
 
-    searched : (s : Seen) → (s.furthest < s.locations → first_missing s.locations 0 words ≡ missing.None) →
+    searched : (s : Seen) → (s.furthest < s.locations → first_missing s.locations 0 words ≡ None) →
         missing_of s words ≡ first_missing s.locations 0 words
     searched s f = by (ltb s.furthest s.locations) _ (λ e. f (ltb-true s.furthest s.locations e))

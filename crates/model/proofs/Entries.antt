@@ -1,10 +1,9 @@
 -- The entries of the index and the edge words that a pass keeps, and which no later word changes. Assumes nothing.
-use Prim.Native.Nat.{ℕ, suc, ◌+◌, ◌*◌, ◌≤◌, ◌<◌}
+use Prim.Native.Nat.{ℕ, suc, ◌+◌, ◌≤◌, ◌<◌}
 use mathlib.Core.Path.{◌≡◌, refl, ◌∙◌}
 use mathlib.Core.Bool.{false}
 use mathlib.Core.List.{List, [], ◌∷◌}
 use native.Mathlib.Omega.{arith}
-use lib.IntN.{ℤ, pos}
 use lib.ListN.{length, get_or, replicate, length-set, length-replicate}
 use lib.Seq.{get_or-set_other}
 use Rattle.zone.specs.Squares.{universe}
@@ -15,6 +14,8 @@ use Rattle.model.specs.Index.{empty_index, Kept, keep, StoresFit, kept_with_kind
 use Rattle.model.specs.declared.seen.Seen.{Seen}
 use Rattle.model.specs.declared.index.Index.{Index}
 use Rattle.model.proofs.Run.{seen_end, kept_end}
+use Rattle.zone.specs.declared.zones.Zone.{Zone as Square}
+use Rattle.zone.specs.Stores.{no_zone}
 
 -- ---- the stores and the arrays keep their lengths
 
@@ -37,26 +38,26 @@ pub record Sized (m : Kept) : Type 0 where
   pub actions : length m.index.actions ≡ 17
   pub edges : length m.index.edges ≡ 33
   pub words : 128 ≤ length m.edges
-  pub zones : zone_count * 25 ≤ length m.zones
+  pub zones : zone_count ≤ length m.zones
 
-pub sized-empty : (es : List ℕ) (zs : List ℤ) → StoresFit es zs → Sized (keep empty_index es zs)
+pub sized-empty : (es : List ℕ) (zs : List Square) → StoresFit es zs → Sized (keep empty_index es zs)
 sized-empty es zs h = record { targets = refl; actions = refl; edges = refl; words = h.edges; zones = h.zones }
 
--- stores of zeros have room
+-- slices as long as they may be have room
 abbrev pub no_words : List ℕ
 no_words = replicate 128 0
 
-abbrev pub no_keys : List ℤ
-no_keys = replicate 1225 (pos 0)
+abbrev pub no_keys : List Square
+no_keys = replicate 49 no_zone
 
 pub zeros-fit : StoresFit no_words no_keys
-zeros-fit = let e = length-replicate {A = ℕ} 128 0 in let z = length-replicate 1225 (pos 0) in omega arith
+zeros-fit = let e = length-replicate {A = ℕ} 128 0 in let z = length-replicate 49 no_zone in omega arith
 
 pub sized_with : (k : Kind) (s : Seen) (w : ℕ) (m : Kept) → Sized m → Sized (kept_with_kind k s w m)
 unfolding kept_with_kind
 sized_with k s w m h = let l = lengths_with k s w m in by k (omega arith) (omega arith)
   where
-    by : (k : Kind) → 128 ≤ length (kept_with_kind k s w m).edges → zone_count * 25 ≤ length (kept_with_kind k s w m).zones →
+    by : (k : Kind) → 128 ≤ length (kept_with_kind k s w m).edges → zone_count ≤ length (kept_with_kind k s w m).zones →
         Sized (kept_with_kind k s w m)
     by none e z = h
     by head e z = h

@@ -3,14 +3,14 @@ use Prim.Native.Nat.{ℕ, suc}
 use mathlib.Core.Path.{◌≡◌, refl, ap, ◌∙◌}
 use mathlib.Core.Bool.{true}
 use mathlib.Core.List.{List, [], ◌∷◌}
+use Rattle.std.proofs.Common.{Ok}
 use Rattle.zone.specs.Words.{kind, bound_of}
 use Rattle.zone.proofs.WordLaws.{good-fields}
 use Rattle.model.specs.Kinds.{Kind, none, head, location, action, edge, bound, start, number, is, kind_of}
 use Rattle.model.specs.Model.{Action, Location, Model, Parts, parts_with, parts_of, model_of}
 use Rattle.model.specs.States.{location_at}
-use Rattle.model.specs.Scan.{nothing, fault_at, seen_with, WithinLimits}
+use Rattle.model.specs.Scan.{nothing, checked, seen_with, WithinLimits}
 use Rattle.model.specs.declared.seen.Seen.{Seen}
-use Rattle.model.specs.declared.seen.Fault.TheVariants as fault
 use Rattle.model.proofs.Run.{Run}
 use Rattle.model.proofs.Limits.{passes, limits-nothing, limits_with, good-bound}
 use Rattle.model.proofs.ZoneLaws.{All, empty, more, all-at, GoodBound, GoodZone, good-word}
@@ -57,7 +57,7 @@ good_with bound w P b g =
 good_with start w P b g = record { bounds = empty; actions = empty; locations = empty; start_bounds = g.bounds }
 
 -- a bound that passes the checks
-bound-good : (s : Seen) (w : ℕ) → WithinLimits s → fault_at s w ≡ fault.None → kind_of w ≡ bound → GoodBound (bound_of w)
+bound-good : (s : Seen) (w : ℕ) → WithinLimits s → checked s w ≡ Ok tt → kind_of w ≡ bound → GoodBound (bound_of w)
 bound-good s w h f e =
     let named : kind w ≡ number bound = (passes s w f).named ∙ ap number e in
     let b : is bound w ≡ true = rw named in

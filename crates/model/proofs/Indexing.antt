@@ -7,7 +7,6 @@ use mathlib.Core.List.{List, [], ◌∷◌}
 use native.Mathlib.Nat.{add-zero, zero-add}
 use native.Mathlib.Numerals.{add-one}
 use native.Mathlib.Omega.{arith}
-use lib.IntN.{ℤ}
 use lib.ListN.{length, get_or}
 use lib.Seq.{get_or-set_same}
 use Rattle.zone.specs.Squares.{universe}
@@ -30,6 +29,7 @@ use Rattle.model.proofs.Counts.{headed}
 use Rattle.model.proofs.Slots.{Opened, opened_with, nowhere, own-end}
 use Rattle.model.proofs.ZoneLaws.{same_at, set_at}
 use Rattle.model.proofs.Entries.{Sized, sized-empty, sized_with, Lasts, lasts-end, numbers-end}
+use Rattle.zone.specs.declared.zones.Zone.{Zone as Square}
 
 -- what is kept in the end, e, describes the parts P that follow the words seen
 record Describes (e : Kept) (s : Seen) (P : Parts) : Type 0 where
@@ -40,8 +40,8 @@ record Describes (e : Kept) (s : Seen) (P : Parts) : Type 0 where
   actions-limit : get_or e.index.actions s.locations 0 ≤ 32
   edges : Each (EdgeAt e) s.edges P.edges
   edges-end : get_or e.index.edges s.actions 0 ≡ s.edges + length P.edges
-  start_bounds : s.opener ≢ number start → zone_at e.zones start_bounds_at ≡ with_bounds P.start_bounds universe
-  start : s.opener ≢ number start → e.index.start ≡ P.start
+  start_bounds : number s.opener ≢ number start → zone_at e.zones start_bounds_at ≡ with_bounds P.start_bounds universe
+  start : number s.opener ≢ number start → e.index.start ≡ P.start
 
 -- what holds of what is kept while no check has failed
 record Good (s : Seen) (m : Kept) : Type 0 where
@@ -55,8 +55,8 @@ good_with k s m w p g = record { sized = sized_with k s w m g.sized; opened = op
 record Rest (e : Kept) (f s : Seen) (m : Kept) (P : Parts) : Type 0 where
   kept : Lasts s m e
   own : Bounded s → zone_at e.zones s.slot ≡ with_bounds P.bounds (zone_at m.zones s.slot)
-  free : s.opener ≡ number location → P.edges ≡ []
-  last : s.opener ≡ number start → Last P s f
+  free : number s.opener ≡ number location → P.edges ≡ []
+  last : number s.opener ≡ number start → Last P s f
   starts : e.index.start ≡ f.start
 
 module _ (e : Kept) (f s : Seen) (m : Kept) (w p : ℕ) (P : Parts) (h : WithinLimits s) (g : Good s m) where
@@ -232,7 +232,7 @@ edges-end s m p [] t e a = let h = t.0 in set_at (λ n. n ≤ 128) 0 s.edges m.i
 edges-end s m p (w ∷ ws) t e a = edges-end (seen_with s w p) (kept_with s w m) (suc p) ws t.3 (edges_with (kind_of w) s w m t.0 e) a
 
 -- ---- from the first word
-module _ (words es : List ℕ) (zs : List ℤ) (fit : StoresFit es zs) where
+module _ (words es : List ℕ) (zs : List Square) (fit : StoresFit es zs) where
   good-nothing : Good nothing (keep empty_index es zs)
   unfolding follows? may_follow? numbered? follows
   good-nothing = record { sized = sized-empty es zs fit; opened = nowhere (λ b. false_true b) }

@@ -1,15 +1,17 @@
 -- Laws of the kinds of words, and of what may follow what. Assumes nothing.
 use Prim.Native.Nat.{ℕ, ◌<◌}
-use mathlib.Core.Path.{◌≡◌, refl, sym, ◌∙◌}
+use mathlib.Core.Path.{◌≡◌, refl, sym, ap, ◌∙◌}
 use mathlib.Core.Logic.{◌≢◌}
 use mathlib.Core.Bool.{Bool, true, false, not, cond, ◌&&◌, ◌||◌}
 use mathlib.Core.List.{List, [], ◌∷◌}
 use borrow.Author.Tests.{eqb-true, ltb-true}
 use lib.Dec.{T, eqb, ltb, eqb→eq}
 use lib.ListN.{get_or}
+use denote.Enum.Bare.{sameb}
 use Rattle.zone.specs.Words.{kind}
-use Rattle.zone.proofs.Bools.{false_true, both, is_true, left_true, right_true}
-use Rattle.model.specs.Kinds.{Kind, none, head, location, action, edge, bound, start, number, kinds, among, kind_of}
+use Rattle.zone.proofs.Bools.{true_false, false_true, both, is_true, left_true, right_true}
+use Rattle.model.specs.Kinds.{Kind, none, head, location, action, edge, bound, start, number, kinds, is, among, kind_of}
+use Rattle.model.specs.contracts.kinds.Kind.{the_type}
 use Rattle.model.specs.TableKinds.{table_number, table_kinds}
 use Rattle.model.specs.Grammar.{follows, table_follows, numbered?, may_follow?, follows?, table_follows?}
 use Rattle.model.specs.Openers.{openers, opener?, table_openers, table_opener?, edge_may_follow?}
@@ -60,6 +62,50 @@ no_kind_lem w h l a e b s = by_kind (λ (k : Kind). k ≡ none) w refl other
     other edge q = absurd (e q)
     other bound q = absurd (b q)
     other start q = absurd (s q)
+
+-- a word of one of the six kinds has its number
+pub kind-number : (k : Kind) (w : ℕ) → (number k ≡ 0 → ⊥) → kind_of w ≡ k → kind w ≡ number k
+kind-number k w n e = by_kind (λ (j : Kind). j ≡ k → kind w ≡ number k) w (λ f. absurd (n (ap number (sym f)))) (λ j m f. m ∙ ap number f) e
+
+-- whether a word is an edge, by its kind
+pub is-edge : (w : ℕ) → is edge w ≡ eqb (number (kind_of w)) (number edge)
+is-edge w = by (is edge w) refl
+  where
+    by : (b : Bool) → is edge w ≡ b → b ≡ eqb (number (kind_of w)) (number edge)
+    by true e = rw (kind-is edge w (eqb-true (kind w) (number edge) e))
+    by false e = by_kind (λ (k : Kind). false ≡ eqb (number k) (number edge)) w refl (λ k n. rw (← n) (sym e))
+
+-- ---- two kinds are the same, as the code tests it, if their numbers are
+pub same-edge : (k : Kind) → sameb the_type k edge ≡ eqb (number k) (number edge)
+same-edge none = refl
+same-edge head = refl
+same-edge location = refl
+same-edge action = refl
+same-edge edge = refl
+same-edge bound = refl
+same-edge start = refl
+
+-- a kind that the code finds to be a bound's, and one that it does not
+pub same-bound : (k : Kind) → sameb the_type k bound ≡ true → k ≡ bound
+same-bound none e = false_true e
+same-bound head e = false_true e
+same-bound location e = false_true e
+same-bound action e = false_true e
+same-bound edge e = false_true e
+same-bound bound e = refl
+same-bound start e = false_true e
+
+pub other-bound : (k : Kind) → sameb the_type k bound ≡ false → k ≢ bound
+other-bound k e q = true_false (rw q at e)
+
+pub same-start : (k : Kind) → sameb the_type k start ≡ eqb (number k) (number start)
+same-start none = refl
+same-start head = refl
+same-start location = refl
+same-start action = refl
+same-start edge = refl
+same-start bound = refl
+same-start start = refl
 
 -- ---- what may follow what
 

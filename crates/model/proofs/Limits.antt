@@ -1,12 +1,13 @@
 -- What holds of the words read so far while no check has failed. Assumes nothing.
-use Prim.Native.Nat.{ℕ, suc, ◌+◌, ◌*◌, ◌^◌, ◌≤◌, ◌<◌}
-use mathlib.Core.Path.{◌≡◌, refl, ap, subst}
+use Prim.Native.Nat.{ℕ, ◌+◌, ◌*◌, ◌^◌, ◌≤◌, ◌<◌}
+use mathlib.Core.Path.{◌≡◌, refl, subst}
 use mathlib.Core.Bool.{Bool, true, false, cond, ◌&&◌}
-use mathlib.Core.List.{List, [], ◌∷◌}
 use native.Mathlib.Omega.{arith}
 use borrow.Author.Tests.{ltb-true, leb-true, eqb-true}
 use lib.Dec.{eqb, leb}
-use lib.IntN.{ℤ}
+use Rattle.std.proofs.Common.{Result, Ok, Err}
+use Rattle.answers.specs.declared.Reason.{Reason}
+use Rattle.answers.specs.declared.Reason.TheVariants as reason
 use Rattle.zone.specs.Words.{bits, kind, bound_of, good_bound?}
 use Rattle.zone.specs.Questions.{clocks?}
 use Rattle.zone.proofs.Bools.{false_true, left_true, right_true}
@@ -16,13 +17,9 @@ use Rattle.model.specs.Grammar.{numbered?, follows?}
 use Rattle.model.specs.Fields.{clocks_of, denominator_of, head_fields?, fields?}
 use Rattle.model.specs.Reading.{limit?}
 use Rattle.model.specs.Openers.{opener?, edge_may_follow?}
-use Rattle.model.specs.Scan.{nothing, fields_at?, limit_at?, adds_at?, fault_at, zone_count}
+use Rattle.model.specs.Scan.{nothing, fields_at?, limit_at?, adds_at?, checked, zone_count}
 use Rattle.model.specs.Scan.{with_head, with_location, with_action, with_edge, with_start, seen_with_kind, seen_with, WithinLimits}
-use Rattle.model.specs.Index.{Kept, keep, empty_index, kept_with, Pass, scan_from, scanned}
 use Rattle.model.specs.declared.seen.Seen.{Seen}
-use Rattle.model.specs.declared.seen.Fault.{Fault}
-use Rattle.model.specs.declared.seen.Fault.TheVariants as fault
-use Rattle.model.proofs.Run.{unless}
 use Rattle.model.proofs.KindLaws.{kind-is, by_kind, before-edge}
 
 -- ---- a word that fails no check
@@ -30,40 +27,33 @@ use Rattle.model.proofs.KindLaws.{kind-is, by_kind, before-edge}
 -- the word w, of the kind k, passes the checks behind words that come to s
 pub record Passes (k : Kind) (s : Seen) (w : ℕ) : Type 0 where
   pub named : kind w ≡ number k
-  pub follows : follows? s.opener (number k) ≡ true
-  pub fields : fields? k s.clocks s.denominator s.locations s.opener w ≡ true
+  pub follows : follows? (number s.opener) (number k) ≡ true
+  pub fields : fields? k s.clocks s.denominator s.locations (number s.opener) w ≡ true
   pub limit : limit? k s.locations s.actions s.run ≡ true
   pub adds : adds_at? s w ≡ true
 
-none? : Fault → Bool
-none? fault.None = true
-none? fault.Kind = false
-none? fault.Field = false
-none? fault.Limit = false
-none? fault.Weights = false
+-- of four tests in their order, the reason of the first that fails
+abbrev pub first_fault : Bool → Bool → Bool → Bool → Result (Unit {0}) Reason
+first_fault a b c d =
+    cond a (cond b (cond c (cond d (Ok tt) (Err reason.BadWeights)) (Err reason.OverModelLimit)) (Err reason.BadModelField)) (Err reason.BadModelKind)
 
--- the fault of four tests in their order
-abbrev pub first_fault : Bool → Bool → Bool → Bool → Fault
-first_fault a b c d = cond a (cond b (cond c (cond d fault.None fault.Weights) fault.Limit) fault.Field) fault.Kind
-
-pub all_pass : (a b c d : Bool) → first_fault a b c d ≡ fault.None → (a ≡ true) × (b ≡ true) × (c ≡ true) × (d ≡ true)
-unfolding none?
+pub all_pass : (a b c d : Bool) → first_fault a b c d ≡ Ok tt → (a ≡ true) × (b ≡ true) × (c ≡ true) × (d ≡ true)
 all_pass true true true true h = (refl, refl, refl, refl)
-all_pass true true true false h = false_true (ap none? h)
-all_pass true true false d h = false_true (ap none? h)
-all_pass true false c d h = false_true (ap none? h)
-all_pass false b c d h = false_true (ap none? h)
+all_pass true true true false h = absurd (cc)
+all_pass true true false d h = absurd (cc)
+all_pass true false c d h = absurd (cc)
+all_pass false b c d h = absurd (cc)
 
-pub passes : (s : Seen) (w : ℕ) → fault_at s w ≡ fault.None → Passes (kind_of w) s w
-unfolding fault_at fields_at? limit_at? fields?
+pub passes : (s : Seen) (w : ℕ) → checked s w ≡ Ok tt → Passes (kind_of w) s w
+unfolding checked fields_at? limit_at? fields?
 passes s w h =
-    let all = all_pass (follows? s.opener (kind w)) (fields_at? s w) (limit_at? s w) (adds_at? s w) h in
+    let all = all_pass (follows? (number s.opener) (kind w)) (fields_at? s w) (limit_at? s w) (adds_at? s w) h in
     let named : kind w ≡ number (kind_of w) =
-    by_kind (λ (k : Kind). fields? k s.clocks s.denominator s.locations s.opener w ≡ true → kind w ≡ number k) w
+    by_kind (λ (k : Kind). fields? k s.clocks s.denominator s.locations (number s.opener) w ≡ true → kind w ≡ number k) w
     (λ e. false_true e) (λ k n e. n) all.1 in
     record { named = named; follows = rw (← named) all.0; fields = all.1; limit = all.2; adds = all.3 }
 
-pub passes_as : (k : Kind) (s : Seen) (w : ℕ) → kind w ≡ number k → fault_at s w ≡ fault.None → Passes k s w
+pub passes_as : (k : Kind) (s : Seen) (w : ℕ) → kind w ≡ number k → checked s w ≡ Ok tt → Passes k s w
 passes_as k s w e h = subst (λ (k : Kind). Passes k s w) (kind-is k w e) (passes s w h)
 
 -- ---- a word more
@@ -71,7 +61,7 @@ passes_as k s w e h = subst (λ (k : Kind). Passes k s w) (kind-is k w e) (passe
 edge-room : (s : Seen) (w : ℕ) → WithinLimits s → Passes edge s w → (s.run < 4) × (s.edges + 4 ≤ 4 * s.actions + s.run)
 unfolding limit?
 edge-room s w h g =
-    (ltb-true _ _ g.limit, h.room (before-edge s.opener g.follows))
+    (ltb-true _ _ g.limit, h.room (before-edge (number s.opener) g.follows))
 
 pub head-ranges : (w : ℕ) → head_fields? w ≡ true → (1 ≤ clocks_of w) × (clocks_of w ≤ 4) × (1 ≤ denominator_of w)
 head-ranges w h =
@@ -84,7 +74,7 @@ head-ranges w h =
 
 -- the limits, from what the opener says and from the numbers
 limits :
-    (s : Seen) → opener? s.opener ≡ true → (edge_may_follow? s.opener ≡ true → s.edges + 4 ≤ 4 * s.actions + s.run) →
+    (s : Seen) → opener? (number s.opener) ≡ true → (edge_may_follow? (number s.opener) ≡ true → s.edges + 4 ≤ 4 * s.actions + s.run) →
     (s.clocks ≤ 4) × (s.denominator < 2 ^ 16) × (s.locations ≤ 16) × (s.actions ≤ 32) × (s.edges ≤ 4 * s.actions) × (s.run ≤ 4)
     × (s.weights ≤ s.run * 2 ^ 16) × (s.slot < zone_count) × (s.start < 16) → WithinLimits s
 limits s o r n =
@@ -118,23 +108,12 @@ pub limits-nothing : WithinLimits nothing
 unfolding numbered?
 limits-nothing = limits nothing refl (λ e. false_true e) (omega arith)
 
-pub limits_with : (s : Seen) (w p : ℕ) → WithinLimits s → fault_at s w ≡ fault.None → WithinLimits (seen_with s w p)
+pub limits_with : (s : Seen) (w p : ℕ) → WithinLimits s → checked s w ≡ Ok tt → WithinLimits (seen_with s w p)
 unfolding seen_with
 limits_with s w p h f = limits-kind (kind_of w) s w p h (passes s w f)
 
-limits-from : (s : Seen) (k : Kept) (p : ℕ) (ws : List ℕ) → WithinLimits s → WithinLimits (scan_from s k p ws).seen
-unfolding scan_from
-limits-from s k p [] h = h
-limits-from s k p (w ∷ ws) h =
-    unless (λ (r : Pass). WithinLimits r.seen) (fault_at s w) _ _ h
-    λ f. limits-from (seen_with s w p) (kept_with s w k) (suc p) ws (limits_with s w p h f)
-
-pub limits-scanned : (words es : List ℕ) (zs : List ℤ) → WithinLimits (scanned words es zs).seen
-unfolding scanned
-limits-scanned words es zs = limits-from nothing (keep empty_index es zs) 0 words limits-nothing
-
 -- ---- what a word that fails no check says
-module _ (s : Seen) (w : ℕ) (h : WithinLimits s) (f : fault_at s w ≡ fault.None) where
+module _ (s : Seen) (w : ℕ) (h : WithinLimits s) (f : checked s w ≡ Ok tt) where
   -- there is room for it
   pub room-location : kind w ≡ number location → s.locations < 16
   unfolding limit?

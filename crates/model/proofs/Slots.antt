@@ -1,5 +1,5 @@
 -- The slots of the zones that a pass reads: which stand open, and which no later word changes. Assumes nothing.
-use Prim.Native.Nat.{ℕ, suc, ◌+◌, ◌*◌, ◌≤◌, ◌<◌}
+use Prim.Native.Nat.{ℕ, suc, ◌+◌, ◌≤◌, ◌<◌}
 use mathlib.Core.Path.{◌≡◌, refl, ap, ◌∙◌}
 use mathlib.Core.Logic.{◌≢◌}
 use mathlib.Core.List.{List, [], ◌∷◌}
@@ -30,15 +30,15 @@ same_with head s w p q m (a-head z) n = refl
 same_with location s w p q m (a-location a l) n = put-apart universe s.locations m.zones q (n refl)
 same_with action s w p q m (an-action a l) n = put-apart universe (guards_at + s.actions) m.zones q (n refl)
 same_with edge s w p q m (an-edge a i l) n = refl
-same_with bound s w p q m (a-bound b i j) n = word-apart w s.slot m.zones i j q (n b)
+same_with bound s w p q m (a-bound b i j) n = word-apart w s.slot m.zones q (n b)
 same_with start s w p q m (a-start a) n = put-apart universe start_bounds_at m.zones q (n refl)
 same_with none s w p q m x'' n = elim x'' [ ]
 
 -- ---- the slot of the opener, where a bound may follow
 pub data Opened (s : Seen) : Type 0 where
-  at-location : s.opener ≡ number location → s.locations ≡ suc s.slot → Opened s
-  at-action : (a : ℕ) → s.opener ≡ number action → s.actions ≡ suc a → s.slot ≡ guards_at + a → Opened s
-  at-start : s.opener ≡ number start → s.slot ≡ start_bounds_at → Opened s
+  at-location : number s.opener ≡ number location → s.locations ≡ suc s.slot → Opened s
+  at-action : (a : ℕ) → number s.opener ≡ number action → s.actions ≡ suc a → s.slot ≡ guards_at + a → Opened s
+  at-start : number s.opener ≡ number start → s.slot ≡ start_bounds_at → Opened s
   nowhere : (Bounded s → ⊥) → Opened s
 
 pub opened_with : (k : Kind) (s : Seen) (w p : ℕ) → Opened s → Opened (seen_with_kind k s w p)
@@ -110,18 +110,18 @@ settled-end s p q m (w ∷ ws) r a =
 -- ---- the zone of an opener, once its bounds are read
 
 -- the slot of an opener that is not the start
-behind-slot : (s : Seen) → Opened s → Bounded s → s.opener ≢ number start → Behind s s.slot
+behind-slot : (s : Seen) → Opened s → Bounded s → number s.opener ≢ number start → Behind s s.slot
 behind-slot s (at-location e l) b n = past-location (omega arith)
 behind-slot s (at-action a e l i) b n = past-action a (omega arith) i
 behind-slot s (at-start e l) b n = absurd (n e)
 behind-slot s (nowhere m) b n = absurd (m b)
 
 module _
-    (s : Seen) (w p : ℕ) (m end : Kept) (P : Parts) (h : WithinLimits s) (o : Opened s) (z : zone_count * 25 ≤ length m.zones) (b : Bounded s)
+    (s : Seen) (w p : ℕ) (m end : Kept) (P : Parts) (h : WithinLimits s) (o : Opened s) (z : zone_count ≤ length m.zones) (b : Bounded s)
   where
     -- behind a word that is no bound, the slot of the opener before it is settled
     kept-own :
-        (k : Kind) → Step s w k → s.opener ≢ number start → number k ≢ number bound →
+        (k : Kind) → Step s w k → number s.opener ≢ number start → number k ≢ number bound →
         ((q : ℕ) → Settled (seen_with_kind k s w p) q → zone_at end.zones q ≡ zone_at (kept_with_kind k s w m).zones q) →
         zone_at end.zones s.slot ≡ zone_at m.zones s.slot
     kept-own k t n d f =
@@ -135,20 +135,20 @@ module _
         (Bounded (seen_with_kind k s w p) →
         zone_at end.zones (seen_with_kind k s w p).slot ≡
         with_bounds P.bounds (zone_at (kept_with_kind k s w m).zones (seen_with_kind k s w p).slot)) →
-        ((seen_with_kind k s w p).opener ≡ number edge → P.bounds ≡ []) →
+        (number (seen_with_kind k s w p).opener ≡ number edge → P.bounds ≡ []) →
         zone_at end.zones s.slot ≡ with_bounds (parts_with k w P).bounds (zone_at m.zones s.slot)
     unfolding seen_with_kind kept_with_kind parts_with with_bounds with_word follows? may_follow? numbered? follows
-    own-with head (a-head i) f own e = absurd (never s.opener bound none b refl i)
+    own-with head (a-head i) f own e = absurd (never (number s.opener) bound none b refl i)
     own-with location (a-location n l) f own e = kept-own location (a-location n l) n (omega arith) f
     own-with action (an-action n l) f own e = kept-own action (an-action n l) n (omega arith) f
     own-with edge (an-edge n c l) f own e = rw (e refl) (kept-own edge (an-edge n c l) n (omega arith) f)
     own-with bound (a-bound c i j) f own e =
-        let slot = h.slot in own b ∙ ap (with_bounds P.bounds) (word-here w s.slot m.zones i j (omega arith))
+        let slot = h.slot in own b ∙ ap (with_bounds P.bounds) (word-here w s.slot m.zones (omega arith))
     own-with start (a-start n) f own e = kept-own start (a-start n) n (omega arith) f
     own-with none x4 f own e = elim x4 [ ]
 
 pub own-end :
-    (s : Seen) (p : ℕ) (m : Kept) (ws : List ℕ) → Walk s p ws → Opened s → zone_count * 25 ≤ length m.zones → Bounded s →
+    (s : Seen) (p : ℕ) (m : Kept) (ws : List ℕ) → Walk s p ws → Opened s → zone_count ≤ length m.zones → Bounded s →
     zone_at (kept_end s m p ws).zones s.slot ≡ with_bounds (parts_of ws).bounds (zone_at m.zones s.slot)
 unfolding kept_end kept_with parts_of with_bounds seen_with
 own-end s p m [] r o z b = refl

@@ -4,7 +4,6 @@ use mathlib.Core.Path.{◌≡◌, refl, subst}
 use mathlib.Core.Bool.{true, false}
 use mathlib.Core.List.{List}
 use native.Mathlib.Omega.{arith}
-use lib.IntN.{ℤ}
 use lib.ListN.{length}
 use Rattle.zone.specs.Scale.{Region, within}
 use Rattle.zone.specs.Squares.{universe, met, empty?, Tightens}
@@ -19,13 +18,14 @@ use Rattle.model.specs.Index.{start_square}
 use Rattle.model.specs.Indexed.{with_bounds}
 use Rattle.model.proofs.ZoneLaws.{stands-bounds, tightens-bounds}
 use Rattle.model.proofs.GoodModel.{GoodModel}
+use Rattle.zone.specs.declared.zones.Zone.{Zone as Square}
 
 -- the start valuations: in the start location's invariant and in the start bounds
 abbrev pub start_region : Model → Region
 start_region M = in_both (within (location_at M M.start).invariant) (within M.start_bounds)
 
 module _
-    (M : Model) (zs : List ℤ) (good : GoodModel M)
+    (M : Model) (zs : List Square) (good : GoodModel M)
     (invariant : zone_at zs M.start ≡ with_bounds (location_at M M.start).invariant universe)
     (start_bounds : zone_at zs start_bounds_at ≡ with_bounds M.start_bounds universe)
   where

@@ -11,22 +11,23 @@ use lib.Dec.{T, eqb, leb, ltb}
 use lib.ListN.{get_or, length}
 use lib.Pow.{pow_pos}
 use Rattle.zone.specs.Words.{bits, kind}
-use Rattle.zone.specs.Checks.{accepted}
+use Rattle.std.proofs.Common.{Ok}
+use Rattle.answers.specs.Checks.{accepted}
+use Rattle.answers.specs.Refusals.{answer_of}
 use Rattle.zone.proofs.Bools.{false_true, is_true, left_true, right_true}
-use Rattle.zone.proofs.CheckLaws.{AllHold, first-accepted}
+use Rattle.answers.proofs.CheckLaws.{AllHold, first-accepted}
 use Rattle.model.specs.Kinds.{Kind, none, head, location, action, edge, bound, start, number, is, kind_of}
 use Rattle.model.specs.Grammar.{numbered?}
 use Rattle.model.specs.Fields.{clocks_of, denominator_of, mask_of, lands_at, weight_of, head_fields?, fields?}
 use Rattle.model.specs.Model.{Edge, Action, Model, Parts, edge_of, parts_with, parts_of, model_of}
 use Rattle.model.specs.States.{location_at}
 use Rattle.model.specs.Before.{count_of}
-use Rattle.model.specs.Reading.{adds?, edge_checks, model_checks, counts_of, ReadModel, model_answer}
+use Rattle.model.specs.Reading.{adds?, edge_checks, model_checks, counts_of, ReadModel}
 use Rattle.model.specs.Openers.{edge_may_follow?}
 use Rattle.model.specs.Scan.{nothing, adds_at?, seen_with, seen_with_kind, WithinLimits}
-use Rattle.model.specs.Index.{empty_index, keep, scanned}
+use Rattle.model.specs.Index.{empty_index, keep}
 use Rattle.model.specs.declared.seen.Seen.{Seen}
 use Rattle.model.specs.declared.read.Counts.{Counts}
-use Rattle.model.specs.declared.read.ModelAnswer.TheVariants as answer
 use Rattle.model.proofs.KindLaws.{head_first, behind-edges}
 use Rattle.model.proofs.Run.{Run}
 use Rattle.model.proofs.Limits.{Passes, passes, passes_as, limits-nothing, limits_with, head-ranges}
@@ -36,7 +37,7 @@ use Rattle.model.proofs.Counts.{ends, counts_end}
 use Rattle.model.proofs.Indexing.{indexed}
 use Rattle.model.proofs.ZoneLaws.{All, empty, more, all-at}
 use Rattle.model.proofs.GoodModel.{GoodModel, good-model}
-use Rattle.model.proofs.Answering.{accepted-only, start-exists, run_where, answered}
+use Rattle.model.proofs.Answering.{start-exists, accepted-run, answered}
 use Rattle.model.proofs.OneAnswer.{read_one}
 
 -- the weights of edges, added
@@ -74,8 +75,8 @@ some-edge (E ∷ Es) h = omega arith
 -- the parts P behind words that come to s; where an edge may follow those, P begins with the rest of an action's edges
 record Formed (M : Model) (s : Seen) (P : Parts) : Type 0 where
   edges : All (FormedEdge M) P.edges
-  weights : edge_may_follow? s.opener ≡ true → s.weights + weigh P.edges ≡ M.denominator
-  few : edge_may_follow? s.opener ≡ true → s.run + length P.edges ≤ 4
+  weights : edge_may_follow? (number s.opener) ≡ true → s.weights + weigh P.edges ≡ M.denominator
+  few : edge_may_follow? (number s.opener) ≡ true → s.run + length P.edges ≤ 4
   actions : All (FormedAction M) P.actions
   locations : All (λ L. All (FormedAction M) L.actions) P.locations
 
@@ -92,10 +93,10 @@ module _ (M : Model) (positive : 1 ≤ M.denominator) where
 
     -- a word behind the edges of an action: their weights add to the denominator
     ended : (k : Kind) → Passes k s w → number k ≢ number head → eqb (number k) (number edge) ≡ false → eqb (number k) (number bound) ≡ false →
-        edge_may_follow? s.opener ≡ true → s.weights ≡ M.denominator
+        edge_may_follow? (number s.opener) ≡ true → s.weights ≡ M.denominator
     unfolding adds_at? adds?
     ended k g n e b m =
-        let last = behind-edges s.opener (number k) g.follows m e b in
+        let last = behind-edges (number s.opener) (number k) g.follows m e b in
         eqb-true s.weights s.denominator (rw (last, g.named, e) at g.adds) ∙ (behind k g n).denominator
 
     formed-edge : Passes edge s w → lands_at w < length M.locations → FormedEdge M (edge_of w)
@@ -115,7 +116,7 @@ module _ (M : Model) (positive : 1 ≤ M.denominator) where
     unfolding fields? seen_with_kind parts_with weigh numbered?
     formed-with none g l f = false_true g.fields
     formed-with head g l f =
-        let first : s.opener ≡ number none = eqb-true s.opener (number none) (head_first s.opener (number head) g.follows) in
+        let first : number s.opener ≡ number none = eqb-true (number s.opener) (number none) (head_first (number s.opener) (number head) g.follows) in
         record {
           edges = f.edges;
           weights = λ i. false_true (rw first at i);
@@ -219,11 +220,9 @@ well-formed words r e = record {
 -- ---- an accepted model
 module _ (words : List ℕ) (counts : Counts) (h : ReadModel words (accepted counts)) where
   pub accepted-runs : Run nothing 0 words
-  unfolding model_answer
+  unfolding answer_of
   accepted-runs =
-      let same = read_one words _ (answer.Accepted counts) (answered words no_words no_keys zeros-fit) h in
-      let pass = scanned words no_words no_keys in
-      run_where words no_words no_keys zeros-fit (accepted-only pass.fault pass.place _ counts same)
+      accepted-run words no_words no_keys zeros-fit counts (read_one words _ (Ok counts) (answered words no_words no_keys zeros-fit) h)
 
   pub accepted-good : GoodModel (model_of words)
   accepted-good = good-model words accepted-runs

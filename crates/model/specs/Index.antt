@@ -1,21 +1,19 @@
 -- Algorithm: one pass over the words, and what it leaves for judging. Assumes nothing.
-use Rattle.std.specs.Prelude.{ℕ, suc, ◌+◌, ◌*◌, ◌≤◌, Bool, false, not, cond, ◌||◌, List, [], ◌∷◌, ℤ, length, set, replicate, ltb}
-use Rattle.zone.specs.Squares.{universe, met, tightened}
+use Rattle.std.specs.Prelude.{ℕ, suc, ◌+◌, ◌≤◌, ◌≡◌, Bool, false, not, cond, ◌||◌, List, [], ◌∷◌, Option, Some, None, Result, Ok, Err, length, set, replicate, ltb}
+use Rattle.zone.specs.Squares.{universe, met, tightened, empty?}
 use Rattle.zone.specs.Stores.{zone_at, put_at, with_word_at}
 use Rattle.zone.specs.declared.zones.Zone.{Zone as Square}
+use Rattle.answers.specs.declared.Reason.{Reason}
+use Rattle.answers.specs.declared.Reason.TheVariants as reason
+use Rattle.answers.specs.declared.Refusal.{Refusal}
 use Rattle.model.specs.Kinds.{Kind, none, head, location, action, edge, bound, start, is, kind_of}
 use Rattle.model.specs.Fields.{target?, lands_at}
-use Rattle.model.specs.Scan.{guards_at, start_bounds_at, zone_count, nothing, fault_at, last_fault, seen_with}
+use Rattle.model.specs.Scan.{guards_at, start_bounds_at, zone_count, nothing, checked, checked_end, seen_with}
 use Rattle.model.specs.declared.seen.Seen.{Seen}
-use Rattle.model.specs.declared.seen.Fault.{Fault}
-use Rattle.model.specs.declared.seen.Fault.TheVariants as fault
 use Rattle.model.specs.declared.index.Index.{Index}
-use Rattle.model.specs.declared.scan.Scanned.{Scanned}
 use Rattle.model.specs.declared.read.Counts.{Counts}
-use Rattle.model.specs.declared.read.ModelAnswer.{ModelAnswer}
-use Rattle.model.specs.declared.read.ModelAnswer.TheVariants as answer
-use Rattle.model.specs.declared.read.Missing.{Missing}
-use Rattle.model.specs.declared.read.Missing.TheVariants as missing
+use Rattle.model.specs.declared.read.ModelRead.{ModelRead}
+use Rattle.answers.specs.Refusals.{refuse}
 
 -- ---- the parts, as they are read
 
@@ -52,19 +50,19 @@ index_with_location s w x = with_parts x (set x.targets s.locations (target? w))
 abbrev pub index_with_action : Seen → Index → Index
 index_with_action s x = with_parts x x.targets x.actions (set x.edges s.actions s.edges)
 
--- what is kept of a model: its index and, in the lent stores, its edge words and the keys of its zones
+-- what is kept of a model: its index and, in the lent slices, its edge words and its zones
 pub record Kept : Type 0 where
   pub index : Index
   pub edges : List ℕ
-  pub zones : List ℤ
+  pub zones : List Square
 
-abbrev pub keep : Index → List ℕ → List ℤ → Kept
+abbrev pub keep : Index → List ℕ → List Square → Kept
 keep x es zs = record { index = x; edges = es; zones = zs }
 
--- the stores have room for 128 edge words and for 49 zones of 25 keys
-pub record StoresFit (es : List ℕ) (zs : List ℤ) : Type 0 where
+-- the slices have room for 128 edge words and for 49 zones
+pub record StoresFit (es : List ℕ) (zs : List Square) : Type 0 where
   pub edges : 128 ≤ length es
-  pub zones : zone_count * 25 ≤ length zs
+  pub zones : zone_count ≤ length zs
 
 -- with the word w, of a kind, behind words that come to s. What opens a zone puts every valuation at its slot, and a bound goes to the zone of
 -- its opener
@@ -95,68 +93,71 @@ closed s x =
 
 -- ---- the pass
 
--- what the words come to where the pass ends
+-- what the words come to, or the refusal where the pass stops, and what is kept of them there
 pub record Pass : Type 0 where
-  pub fault : Fault
-  pub place : ℕ
-  pub seen : Seen
+  pub outcome : Result Seen Refusal
   pub kept : Kept
 
-abbrev pub pass_at : Fault → ℕ → Seen → Kept → Pass
-pass_at f p s k = record { fault = f; place = p; seen = s; kept = k }
+abbrev pub pass_at : Result Seen Refusal → Kept → Pass
+pass_at r k = record { outcome = r; kept = k }
 
-abbrev pub scanned_at : Fault → ℕ → Seen → Index → Scanned
-scanned_at f p s x = record { fault = f; place = p; seen = s; index = x }
+-- stops at a check that fails, at the index p
+unfoldable pub unless_refused : Result (Unit {0}) Reason → ℕ → Kept → Pass → Pass
+unless_refused (Ok u) p k go = go
+unless_refused (Err r) p k go = pass_at (refuse r p) k
 
--- what the code returns, with what it leaves in the stores
-abbrev pub pass_of : Scanned → List ℕ → List ℤ → Pass
-pass_of r es zs = pass_at r.fault r.place r.seen (keep r.index es zs)
-
--- stops at a fault
-unfoldable pub unless_fault : Fault → Pass → Pass → Pass
-unless_fault fault.None stop go = go
-unless_fault fault.Kind stop go = stop
-unless_fault fault.Field stop go = stop
-unless_fault fault.Limit stop go = stop
-unless_fault fault.Weights stop go = stop
+-- at the end of the words, whose number is p
+unfoldable pub pass_end : Seen → Kept → ℕ → Pass
+pass_end s k p = unless_refused (checked_end s) p k (pass_at (Ok s) k)
 
 -- the words, the first of which has index p, up to the first that fails a check or is missing
 unfoldable pub scan_from : Seen → Kept → ℕ → List ℕ → Pass
-scan_from s k p [] = pass_at (last_fault s) p s (keep (closed s k.index) k.edges k.zones)
-scan_from s k p (w ∷ ws) =
-    unless_fault (fault_at s w) (pass_at (fault_at s w) p s k) (scan_from (seen_with s w p) (kept_with s w k) (suc p) ws)
+scan_from s k p [] = pass_end s (keep (closed s k.index) k.edges k.zones) p
+scan_from s k p (w ∷ ws) = unless_refused (checked s w) p k (scan_from (seen_with s w p) (kept_with s w k) (suc p) ws)
 
 -- the stores hold es and zs at first
-unfoldable pub scanned : List ℕ → List ℕ → List ℤ → Pass
+unfoldable pub scanned : List ℕ → List ℕ → List Square → Pass
 scanned words es zs = scan_from nothing (keep empty_index es zs) 0 words
 
 -- ---- on the whole file
 
 -- the first edge word, from the index p on, whose location is not among so many
-unfoldable pub first_missing : ℕ → ℕ → List ℕ → Missing
-first_missing locations p [] = missing.None
+unfoldable pub first_missing : ℕ → ℕ → List ℕ → Option ℕ
+first_missing locations p [] = None
 first_missing locations p (w ∷ ws) =
-    cond (not (is edge w) || ltb (lands_at w) locations) (first_missing locations (suc p) ws) (missing.At p)
+    cond (not (is edge w) || ltb (lands_at w) locations) (first_missing locations (suc p) ws) (Some p)
 
 -- the words are searched only if the furthest location that they name does not exist
-unfoldable pub missing_of : Seen → List ℕ → Missing
-missing_of s words = cond (ltb s.furthest s.locations) missing.None (first_missing s.locations 0 words)
+unfoldable pub missing_of : Seen → List ℕ → Option ℕ
+missing_of s words = cond (ltb s.furthest s.locations) None (first_missing s.locations 0 words)
 
 -- the start valuations: the start bounds and the invariant of the start location, tightened
-unfoldable pub start_square : ℕ → List ℤ → Square
+unfoldable pub start_square : ℕ → List Square → Square
 start_square l zs = tightened (met (zone_at zs l) (zone_at zs start_bounds_at))
 
 abbrev pub counts_at : Seen → Counts
 counts_at s = record { locations = s.locations; actions = s.actions; edges = s.edges }
 
-unfoldable pub whole_answer : Missing → Bool → Seen → ModelAnswer
-whole_answer (missing.At p) empty s = answer.NoLocation p
-whole_answer missing.None empty s = cond empty (answer.NoStart s.place) (answer.Accepted (counts_at s))
+abbrev pub read_at : Seen → Index → Square → ModelRead
+read_at s x z = record { counts = counts_at s; index = x; initial = z }
 
--- where there is none it is never asked for
-unfoldable pub fault_answer : Fault → ℕ → ModelAnswer
-fault_answer fault.None p = answer.BadModelKind p
-fault_answer fault.Kind p = answer.BadModelKind p
-fault_answer fault.Field p = answer.BadModelField p
-fault_answer fault.Limit p = answer.OverModelLimit p
-fault_answer fault.Weights p = answer.BadWeights p
+-- 5 and 6: `missing` is the first edge that leads nowhere, z the table of the start valuations
+unfoldable pub whole_read : Option ℕ → Square → Seen → Index → Result ModelRead Refusal
+whole_read (Some p) z s x = refuse reason.NoLocation p
+whole_read None z s x = cond (empty? z) (refuse reason.NoStart s.place) (Ok (read_at s x z))
+
+-- what a pass over these words leads to
+unfoldable pub read_behind : List ℕ → Result Seen Refusal → Kept → Result ModelRead Refusal
+read_behind words (Err r) k = Err r
+read_behind words (Ok s) k = whole_read (missing_of s words) (start_square s.start k.zones) s k.index
+
+-- the counts of what was read
+abbrev pub counted : Result ModelRead Refusal → Result Counts Refusal
+counted (Err r) = Err r
+counted (Ok r) = Ok r.counts
+
+-- what a call leaves of what a pass has kept: the stores and, unless it refuses, the index
+pub record Leaves (k : Kept) (r : Result ModelRead Refusal) (es : List ℕ) (zs : List Square) : Type 0 where
+  pub edges : es ≡ k.edges
+  pub zones : zs ≡ k.zones
+  pub index : (m : ModelRead) → r ≡ Ok m → m.index ≡ k.index

@@ -1,15 +1,14 @@
 -- What is kept of an accepted model, and the model that the words hold: the promise that judging rests on. Assumes nothing.
-use Rattle.std.specs.Prelude.{ℕ, suc, ◌+◌, ◌≤◌, ◌≡◌, false, List, [], ◌∷◌, ℤ, get_or, length}
+use Rattle.std.specs.Prelude.{ℕ, suc, ◌+◌, ◌≤◌, ◌≡◌, false, List, [], ◌∷◌, Result, Ok, get_or, length}
 use Rattle.zone.specs.Scale.{Zone}
 use Rattle.zone.specs.Squares.{universe, with_bound}
 use Rattle.zone.specs.Reading.{cell_of}
 use Rattle.zone.specs.Stores.{zone_at}
 use Rattle.zone.specs.declared.zones.Zone.{Zone as Square}
+use Rattle.answers.specs.declared.Refusal.{Refusal}
 use Rattle.model.specs.Model.{Edge, Action, Location, Model, edge_of, model_of}
 use Rattle.model.specs.Scan.{guards_at, start_bounds_at}
 use Rattle.model.specs.Index.{Kept, keep, start_square}
-use Rattle.model.specs.declared.read.Counts.{Counts}
-use Rattle.model.specs.declared.read.ModelAnswer.TheVariants as answer
 use Rattle.model.specs.declared.read.ModelRead.{ModelRead}
 
 -- P holds of each element with its number, the first having number n
@@ -50,9 +49,9 @@ pub record Indexed (M : Model) (k : Kept) : Type 0 where
   pub edge_limits : (a : ℕ) → get_or k.index.edges a 0 ≤ 128
 
 -- an accepted model is kept: its index is the call's, its edge words and zones stand in the stores es and zs
-pub record KeptFor (words : List ℕ) (r : ModelRead) (es : List ℕ) (zs : List ℤ) : Type 0 where
+pub record KeptFor (words : List ℕ) (r : ModelRead) (es : List ℕ) (zs : List Square) : Type 0 where
   pub indexed : Indexed (model_of words) (keep r.index es zs)
   pub initial : r.initial ≡ start_square r.index.start zs
 
-pub record IndexedWhere (words : List ℕ) (r : ModelRead) (es : List ℕ) (zs : List ℤ) : Type 0 where
-  pub accepted : (counts : Counts) → r.answer ≡ answer.Accepted counts → KeptFor words r es zs
+pub record IndexedWhere (words : List ℕ) (result : Result ModelRead Refusal) (es : List ℕ) (zs : List Square) : Type 0 where
+  pub accepted : (r : ModelRead) → result ≡ Ok r → KeptFor words r es zs

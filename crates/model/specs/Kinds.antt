@@ -1,10 +1,9 @@
 -- Document 01, "Words": the kinds of a model's words. Assumes nothing.
 use Rattle.std.specs.Prelude.{ℕ, Bool, cond, List, [], ◌∷◌, eqb}
 use Rattle.zone.specs.Words.{kind}
-
 -- `none` stands before the first word, and for a kind that is not a model's
-pub data Kind : Type 0 where
-  none head location action edge bound start : Kind
+pub use Rattle.model.specs.declared.kinds.Kind.{Kind}
+pub use Rattle.model.specs.declared.kinds.Kind.TheVariants.{None as none, Head as head, Location as location, Action as action, Edge as edge, Bound as bound, Start as start}
 
 -- the number of a kind
 abbrev pub number : Kind → ℕ

@@ -1,7 +1,7 @@
 -- Document 01, "The four calls and their refusals": reading a model, 1 to 6. Assumes nothing.
 use Rattle.std.specs.Prelude.{ℕ, suc, ◌+◌, ◌≡◌, Bool, true, not, cond, ◌||◌, List, [], ◌∷◌, ◌++◌, get_or, length, eqb, ltb}
 use Rattle.zone.specs.Words.{kind}
-use Rattle.zone.specs.Checks.{Answer, refused, accepted, Check, check, test, First}
+use Rattle.answers.specs.Checks.{Answer, Check, check, test, First}
 use Rattle.model.specs.Kinds.{Kind, none, head, location, action, edge, bound, start, number, is, kind_of}
 use Rattle.model.specs.Before.{opener_from, count_of, index_of}
 use Rattle.model.specs.Grammar.{follows?}
@@ -9,8 +9,6 @@ use Rattle.model.specs.Fields.{clocks_of, denominator_of, lands_at, weight_of, f
 use Rattle.model.specs.Model.{model_of}
 use Rattle.model.specs.States.{HasStart}
 use Rattle.model.specs.declared.read.Counts.{Counts}
-use Rattle.model.specs.declared.read.ModelAnswer.{ModelAnswer}
-use Rattle.model.specs.declared.read.ModelAnswer.TheVariants as answer
 
 -- ---- what stands before a word; `before` lists those words, the last one first
 
@@ -75,13 +73,3 @@ counts_of words = record { locations = count_of (number location) words; actions
 -- Reading a model accepts with the counts of locations, actions and edges
 pub record ReadModel (words : List ℕ) (answer : Answer Counts) : Type 0 where
   pub says : First (model_checks words) (λ counts. counts ≡ counts_of words) answer
-
--- what each case of an answer says in the document's numbers and values
-unfoldable pub model_answer : ModelAnswer → Answer Counts
-model_answer (answer.Accepted counts) = accepted counts
-model_answer (answer.BadModelKind p) = refused 1 p
-model_answer (answer.BadModelField p) = refused 2 p
-model_answer (answer.OverModelLimit p) = refused 3 p
-model_answer (answer.BadWeights p) = refused 4 p
-model_answer (answer.NoLocation p) = refused 5 p
-model_answer (answer.NoStart p) = refused 6 p

@@ -1,5 +1,5 @@
 -- Algorithm: what the words read so far come to, and the first check that the next word fails. Assumes nothing.
-use Rattle.std.specs.Prelude.{ℕ, ◌+◌, ◌*◌, ◌≤◌, ◌<◌, ◌^◌, ◌≡◌, Bool, true, cond, eqb, ltb}
+use Rattle.std.specs.Prelude.{ℕ, ◌+◌, ◌*◌, ◌≤◌, ◌<◌, ◌^◌, ◌≡◌, Bool, true, cond, Result, Ok, Err, max, eqb}
 use Rattle.zone.specs.Words.{kind}
 use Rattle.model.specs.Kinds.{Kind, none, head, location, action, edge, bound, start, number, kind_of}
 use Rattle.model.specs.Grammar.{follows?}
@@ -7,13 +7,13 @@ use Rattle.model.specs.Fields.{clocks_of, denominator_of, lands_at, weight_of, s
 use Rattle.model.specs.Reading.{limit?, adds?}
 use Rattle.model.specs.Openers.{opener?, edge_may_follow?}
 use Rattle.model.specs.declared.seen.Seen.{Seen}
-use Rattle.model.specs.declared.seen.Fault.{Fault}
-use Rattle.model.specs.declared.seen.Fault.TheVariants as fault
+use Rattle.answers.specs.declared.Reason.{Reason}
+use Rattle.answers.specs.declared.Reason.TheVariants as reason
 
 abbrev pub nothing : Seen
 nothing =
     record {
-      opener = number none;
+      opener = none;
       clocks = 0;
       denominator = 0;
       locations = 0;
@@ -28,27 +28,28 @@ nothing =
     }
 
 unfoldable pub fields_at? : Seen → ℕ → Bool
-fields_at? s w = fields? (kind_of w) s.clocks s.denominator s.locations s.opener w
+fields_at? s w = fields? (kind_of w) s.clocks s.denominator s.locations (number s.opener) w
 
 unfoldable pub limit_at? : Seen → ℕ → Bool
 limit_at? s w = limit? (kind_of w) s.locations s.actions s.run
 
 unfoldable pub adds_at? : Seen → ℕ → Bool
-adds_at? s w = adds? s.denominator s.opener s.weights w
+adds_at? s w = adds? s.denominator (number s.opener) s.weights w
 
-unfoldable pub fault_at : Seen → ℕ → Fault
-fault_at s w =
-    cond (follows? s.opener (kind w))
+-- of the checks on a word, the reason of the first that it fails
+unfoldable pub checked : Seen → ℕ → Result (Unit {0}) Reason
+checked s w =
+    cond (follows? (number s.opener) (kind w))
     (cond (fields_at? s w)
     (cond (limit_at? s w)
-    (cond (adds_at? s w) fault.None fault.Weights)
-    fault.Limit)
-    fault.Field)
-    fault.Kind
+    (cond (adds_at? s w) (Ok tt) (Err reason.BadWeights))
+    (Err reason.OverModelLimit))
+    (Err reason.BadModelField))
+    (Err reason.BadModelKind)
 
 -- the words may end behind the start and its bounds alone; elsewhere a word is missing where they end
-unfoldable pub last_fault : Seen → Fault
-last_fault s = cond (eqb s.opener (number start)) fault.None fault.Kind
+unfoldable pub checked_end : Seen → Result (Unit {0}) Reason
+checked_end s = cond (eqb (number s.opener) (number start)) (Ok tt) (Err reason.BadModelKind)
 
 -- where the zones of a model stand in their store: the invariant of location l at slot l, the guard of action a at slot guards_at + a, the start
 -- bounds at slot start_bounds_at
@@ -65,7 +66,7 @@ zone_count = 49
 abbrev pub with_head : Seen → ℕ → Seen
 with_head s w =
     record {
-      opener = number head;
+      opener = head;
       clocks = clocks_of w;
       denominator = denominator_of w;
       locations = s.locations;
@@ -82,7 +83,7 @@ with_head s w =
 abbrev pub with_location : Seen → Seen
 with_location s =
     record {
-      opener = number location;
+      opener = location;
       clocks = s.clocks;
       denominator = s.denominator;
       locations = s.locations + 1;
@@ -99,7 +100,7 @@ with_location s =
 abbrev pub with_action : Seen → Seen
 with_action s =
     record {
-      opener = number action;
+      opener = action;
       clocks = s.clocks;
       denominator = s.denominator;
       locations = s.locations;
@@ -116,7 +117,7 @@ with_action s =
 abbrev pub with_edge : Seen → ℕ → Seen
 with_edge s w =
     record {
-      opener = number edge;
+      opener = edge;
       clocks = s.clocks;
       denominator = s.denominator;
       locations = s.locations;
@@ -127,13 +128,13 @@ with_edge s w =
       slot = s.slot;
       start = s.start;
       place = s.place;
-      furthest = cond (ltb s.furthest (lands_at w)) (lands_at w) s.furthest;
+      furthest = max s.furthest (lands_at w);
     }
 
 abbrev pub with_start : Seen → ℕ → ℕ → Seen
 with_start s w p =
     record {
-      opener = number start;
+      opener = start;
       clocks = s.clocks;
       denominator = s.denominator;
       locations = s.locations;
@@ -162,7 +163,7 @@ seen_with s w p = seen_with_kind (kind_of w) s w p
 -- what holds of the words read so far while no check has failed. The limits are document 01's: 4 clocks, a denominator below 2^16, 16 locations,
 -- 32 actions, 4 edges in an action
 pub record WithinLimits (s : Seen) : Type 0 where
-  pub opener : opener? s.opener ≡ true
+  pub opener : opener? (number s.opener) ≡ true
   pub clocks : s.clocks ≤ 4
   pub denominator : s.denominator < 2 ^ 16
   pub locations : s.locations ≤ 16
@@ -170,7 +171,7 @@ pub record WithinLimits (s : Seen) : Type 0 where
   pub edges : s.edges ≤ 4 * s.actions
   pub run : s.run ≤ 4
   -- where an edge may follow there is room for it, since the actions before the last have at most 4 edges each
-  pub room : edge_may_follow? s.opener ≡ true → s.edges + 4 ≤ 4 * s.actions + s.run
+  pub room : edge_may_follow? (number s.opener) ≡ true → s.edges + 4 ≤ 4 * s.actions + s.run
   pub weights : s.weights ≤ s.run * 2 ^ 16
   pub slot : s.slot < zone_count
   pub start : s.start < 16

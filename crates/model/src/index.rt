@@ -8,7 +8,7 @@ use crate::seen::Seen;
 
 // The parts of a model, numbered through the file from 0. Location l has the actions from actions[l] up to actions[l + 1], action a the edges
 // from edges[a] up to edges[a + 1]. The words of the edges and the zones of the model stand beside it, in stores that the caller lends.
-#[derive(Clone, Copy)]
+#[derive(Clone, Copy, Debug, PartialEq, Eq)]
 pub struct Index {
     pub clocks: u32,
     pub denominator: u32,
@@ -30,43 +30,34 @@ impl Index {
         edges: [0; 33],
     };
 
-    // With the location behind what was seen: whether it is a target, and where its actions begin.
-    pub(crate) fn with_location(self, seen: Seen, word: u32) -> Index
-        requires { (seen.locations < 16) × (seen.actions ≤ 32) }
-        ensures { result ≡ index_with_location seen word self }
+    // Adds the location behind what was seen: whether it is a target, and where its actions begin.
+    pub(crate) fn add_location(&mut self, seen: &Seen, word: u32)
+        requires { (seen.now.locations < 16) × (seen.now.actions ≤ 32) }
+        ensures { self.new ≡ index_with_location seen.now word self.old }
     {
-        let mut next = self;
-        let l = seen.locations;
-        next.targets[l] = fields::is_target(word);
-        next.actions[l] = seen.actions as u8;
-        next
+        self.targets[seen.locations] = fields::is_target(word);
+        self.actions[seen.locations] = seen.actions as u8;
     }
 
-    // With the action behind what was seen: where its edges begin.
-    pub(crate) fn with_action(self, seen: Seen) -> Index
-        requires { (seen.actions ≤ 32) × (seen.edges ≤ 128) }
-        ensures { result ≡ index_with_action seen self }
+    // Adds the action behind what was seen: where its edges begin.
+    pub(crate) fn add_action(&mut self, seen: &Seen)
+        requires { (seen.now.actions ≤ 32) × (seen.now.edges ≤ 128) }
+        ensures { self.new ≡ index_with_action seen.now self.old }
     {
-        let mut next = self;
-        let a = seen.actions;
-        next.edges[a] = seen.edges as u8;
-        next
+        self.edges[seen.actions] = seen.edges as u8;
     }
 
-    // With what the whole file comes to, and the ends of the last location and of the last action.
-    pub(crate) fn closed(self, seen: Seen) -> Index
-        requires { WithinLimits seen }
-        ensures { result ≡ closed seen self }
+    // Adds what the whole file comes to, and the ends of the last location and of the last action.
+    #[tactic(auto, unfolding(crate::specs::Index::closed))]
+    pub(crate) fn close(&mut self, seen: &Seen)
+        requires { WithinLimits seen.now }
+        ensures { self.new ≡ closed seen.now self.old }
     {
-        let mut next = self;
-        next.clocks = seen.clocks;
-        next.denominator = seen.denominator;
-        next.locations = seen.locations;
-        next.start = seen.start;
-        let l = seen.locations;
-        next.actions[l] = seen.actions as u8;
-        let a = seen.actions;
-        next.edges[a] = seen.edges as u8;
-        next
+        self.clocks = seen.clocks;
+        self.denominator = seen.denominator;
+        self.locations = seen.locations;
+        self.start = seen.start;
+        self.actions[seen.locations] = seen.actions as u8;
+        self.edges[seen.actions] = seen.edges as u8;
     }
 }

@@ -1,77 +1,69 @@
-// One pass over a model's words: the first fault, or the index of the whole file and, in the lent stores, its edge words and zones.
-ghost use Rattle.std.specs.Prelude.{◌≡◌};
-ghost use Rattle.model.specs.Index.{StoresFit, pass_of, scanned, scanned_at};
+// One pass over a model's words: what they come to, or the first refusal. It fills the index and, in the lent stores, the edge words and zones.
+ghost use Rattle.std.specs.Prelude.{◌≡◌, ◌≢◌, Ok};
+ghost use Rattle.model.specs.Kinds.{bound, kind_of};
+ghost use Rattle.model.specs.Scan.{WithinLimits, nothing, checked};
+ghost use Rattle.model.specs.Index.{StoresFit, keep, kept_with, pass_at, scan_from};
 
 use crate::index::Index;
-use crate::kinds;
+use crate::kinds::{FOLLOWS, Kind};
 use crate::places::{GUARDS, START_BOUNDS};
-use crate::seen::{Fault, Seen};
+use crate::seen::Seen;
+use answers::Refusal;
+use zone::words;
 use zone::zones::Zone;
-use zone::{stores, words};
 
-// What the words come to, up to the first that fails a check or is missing.
-#[derive(Clone, Copy)]
-pub(crate) struct Scanned {
-    pub fault: Fault,
-    pub place: usize,
-    pub seen: Seen,
-    pub index: Index,
-}
-
-impl Scanned {
-    // Of these parts.
-    pub(crate) fn at(fault: Fault, place: usize, seen: Seen, index: Index) -> Scanned
-        ensures { result ≡ scanned_at fault place seen index }
-    {
-        Scanned {
-            fault,
-            place,
-            seen,
-            index,
+// Keeps what a word says that is no bound and passes the checks behind the words seen. An opener's zone begins as every valuation.
+pub(crate) fn keep_word(
+    index: &mut Index,
+    edges: &mut [u32],
+    zones: &mut [Zone],
+    seen: &Seen,
+    word: u32,
+)
+    requires room { StoresFit edges.old zones.old }
+    requires limits { WithinLimits seen.now }
+    requires passes { checked seen.now word ≡ Ok tt }
+    requires opens { kind_of word ≢ bound }
+    ensures { keep index.new edges.new zones.new ≡ kept_with seen.now word (keep index.old edges.old zones.old) }
+{
+    match Kind::of(word) {
+        Kind::Location => {
+            index.add_location(seen, word);
+            zones[seen.locations] = Zone::universe();
         }
+        Kind::Action => {
+            index.add_action(seen);
+            zones[GUARDS + seen.actions] = Zone::universe();
+        }
+        Kind::Edge => edges[seen.edges] = word,
+        Kind::Start => zones[START_BOUNDS] = Zone::universe(),
+        Kind::Head | Kind::Bound | Kind::None => {}
     }
 }
 
-// One pass over the words. An opener's zone begins as every valuation, and each bound is picked in place.
-pub(crate) fn scan(list: &[u32], edges: &mut [u32], zones: &mut [i32]) -> Scanned
+// One pass over the words. Each bound is picked in place: most words of a long file are bounds, so nothing else is asked of one.
+pub(crate) fn scan(
+    list: &[u32],
+    index: &mut Index,
+    edges: &mut [u32],
+    zones: &mut [Zone],
+) -> Result<Seen, Refusal>
     requires { StoresFit edges.old zones.old }
-    ensures { pass_of result edges.new zones.new ≡ scanned list.now edges.old zones.old }
+    ensures { pass_at result (keep index.new edges.new zones.new) ≡ scan_from nothing (keep index.old edges.old zones.old) 0 list.now }
 {
     let mut seen = Seen::NOTHING;
-    let mut index = Index::EMPTY;
-    let follows = kinds::FOLLOWS; // once, not at each word
-    for at in 0..list.len() {
-        let word = list[at];
-        let kind = words::kind_of(word);
-        let allowed = follows[seen.opener as usize][kind as usize];
-        let fault = seen.fault(allowed, word);
-        let Fault::None = fault else {
-            return Scanned::at(fault, at, seen, index);
-        };
-        if kind == kinds::BOUND {
-            stores::add_bound(zones, seen.slot, word);
+    let follows = FOLLOWS; // once, not at each word
+    for (at, &word) in list.iter().enumerate() {
+        let allowed = follows[seen.opener.number()][words::kind_of(word) as usize];
+        seen.check(allowed, word).map_err(|reason| reason.at(at))?;
+        if Kind::of(word) == Kind::Bound {
+            zones[seen.slot].add_bound(word);
             continue;
         }
-        match kind {
-            kinds::LOCATION => {
-                index = index.with_location(seen, word);
-                Zone::universe().put(zones, seen.locations);
-            }
-            kinds::ACTION => {
-                index = index.with_action(seen);
-                Zone::universe().put(zones, GUARDS + seen.actions);
-            }
-            kinds::EDGE => {
-                let e = seen.edges;
-                edges[e] = word;
-            }
-            kinds::START => {
-                Zone::universe().put(zones, START_BOUNDS);
-            }
-            _ => {}
-        }
-        seen = seen.with_word(word, at);
+        keep_word(index, edges, zones, &seen, word);
+        seen.add(word, at);
     }
-    let fault = seen.last_fault();
-    Scanned::at(fault, list.len(), seen, index.closed(seen))
+    index.close(&seen);
+    seen.check_end().map_err(|reason| reason.at(list.len()))?;
+    Ok(seen)
 }

@@ -5,6 +5,7 @@ use mathlib.Core.Logic.{◌⊎◌, inl, inr, ◌≢◌}
 use mathlib.Core.Bool.{true, false, cond}
 use mathlib.Core.List.{List, [], ◌∷◌}
 use native.Mathlib.Omega.{arith}
+use Rattle.std.proofs.Common.{Ok}
 use borrow.Author.Tests.{eqb-true, eq-eqb, ne_eqb, ltb-true}
 use lib.Dec.{eqb}
 use lib.ListN.{length}
@@ -21,9 +22,8 @@ use Rattle.model.specs.Index.{Kept as ModelKept}
 use Rattle.model.proofs.IndexLaws.{location-at}
 use Rattle.table.specs.Fields.{whole_of, location_of, fields?}
 use Rattle.table.specs.Reading.{last_location, all_due, due_after_row, two_due, due_with, due}
-use Rattle.table.specs.Scan.{nothing, rows_allow_kind?, fault_at, seen_with_kind, seen_with, row_openers, one_of?}
+use Rattle.table.specs.Scan.{nothing, rows_allow_kind?, checked, seen_with_kind, seen_with, row_openers, one_of?}
 use Rattle.table.specs.declared.seen.Seen.{Seen}
-use Rattle.table.specs.declared.seen.Fault.TheVariants as fault
 use Rattle.table.proofs.Passing.{Passes, passes, behind, behind-only, not-one, head_first, before-bound, before-value}
 use Rattle.table.proofs.ScanLaws.{in_row}
 use Rattle.table.proofs.ReadLaws.{target-stays}
@@ -210,7 +210,7 @@ module _ (M : Model) (m : ModelKept) (i : Indexed M m) (whole : ℕ) (before : L
   target-kind start_node g o = false_true o
   target-kind cut g o = a.target (behind cut s.opener g.follows row_openers tt)
 
-  pub agrees_with : fault_at s x.clocks x.locations w ≡ fault.None → Heads whole before w → Agrees M m whole (w ∷ before) (seen_with x s w p)
+  pub agrees_with : checked s x.clocks x.locations w ≡ Ok tt → Heads whole before w → Agrees M m whole (w ∷ before) (seen_with x s w p)
   unfolding seen_with due
   agrees_with f first =
       let g = passes x s w f in

@@ -1,15 +1,21 @@
 -- The pass decides the checks 11 to 14. Assumes nothing.
-use Prim.Native.Nat.{ℕ, suc}
+use Prim.Native.Nat.{ℕ, suc, ◌+◌}
 use mathlib.Core.Path.{◌≡◌, refl, ap, ◌∙◌}
 use mathlib.Core.Logic.{inl, inr}
 use mathlib.Core.Bool.{Bool, true, false, not, cond, ◌&&◌, ◌||◌}
 use mathlib.Core.List.{List, [], ◌∷◌, ◌++◌, reverse_aux}
+use native.Mathlib.Nat.{zero-add}
 use native.Mathlib.Omega.{arith}
-use lib.Dec.{eqb, ltb}
-use lib.IntN.{ℤ}
+use lib.Dec.{eqb, ltb, leb}
+use Rattle.std.proofs.lemmas.Bool.Decides.{nat_tests}
+use Rattle.std.proofs.Common.{Result, Ok, Option, Some, None}
+use Rattle.std.specs.List.{position_or_len}
+use Rattle.answers.specs.Refusals.{number, answer_of}
+use Rattle.answers.specs.declared.Reason.{Reason}
+use Rattle.answers.specs.declared.Refusal.{Refusal}
 use lib.ListN.{get_or, length}
 use Rattle.zone.specs.Words.{kind}
-use Rattle.zone.specs.Checks.{Answer, Check, test, First}
+use Rattle.answers.specs.Checks.{Answer, Check, test, First}
 use Rattle.zone.proofs.Bools.{left_true}
 use Rattle.model.specs.TableKinds.{TableKind, no_kind, table_head, node, successor, start_node, cut, is_table, table_kind_of, table_number}
 use Rattle.model.specs.Before.{opener_from, count_of}
@@ -20,25 +26,24 @@ use Rattle.model.proofs.Counts.{count_reversed}
 use Rattle.model.specs.declared.index.Index.{Index}
 use Rattle.model.specs.Index.{Kept as ModelKept}
 use Rattle.table.specs.Fields.{whole_of, number_of, fields?}
-use Rattle.table.specs.Reading.{due, rows_allow?, limit?, word_checks, words_checks, number_checks, read_checks, table_answer}
-use Rattle.table.specs.Scan.{nothing, row_openers, rows_allow_kind?, rows_allow_at?, fields_at?, limit_at?, fault_at, last_fault, seen_with}
-use Rattle.table.specs.Index.{Kept, keep, kept_with, Pass, pass_at, unless_fault, scan_from, scanned, numbers_answer, answer_of}
+use Rattle.table.specs.Reading.{due, rows_allow?, limit?, word_checks, words_checks, number_checks, read_checks}
+use Rattle.table.specs.Scan.{nothing, row_openers, rows_allow_kind?, rows_allow_at?, fields_at?, limit_at?, checked, checked_end, seen_with}
+use Rattle.table.specs.Index.{Kept, keep, kept_with, Pass, pass_at, unless_refused, scan_from, scanned, lacks_node?, unless_missing, read_of}
 use Rattle.table.specs.declared.seen.Seen.{Seen}
-use Rattle.table.specs.declared.seen.Fault.{Fault}
-use Rattle.table.specs.declared.seen.Fault.TheVariants as fault
-use Rattle.table.specs.declared.read.TableAnswer.{TableAnswer}
-use Rattle.table.specs.declared.read.TableAnswer.TheVariants as answer
+use Rattle.table.specs.declared.read.TableRead.{TableRead}
 use Rattle.table.proofs.KindLaws.{kind-is, by_kind}
-use Rattle.table.proofs.Run.{Run, seen_end, goes, run_of, end_of}
-use Rattle.table.proofs.Passing.{first_fault, behind}
+use Rattle.table.proofs.Run.{Run, seen_end, goes, run_of, ended}
+use Rattle.table.proofs.Passing.{first_refused, behind}
 use Rattle.table.proofs.Rows.{same_rows}
 use Rattle.table.proofs.Agreeing.{Agrees, Begins, here, there, Heads, agrees-nothing, begins, agrees_with}
+use Rattle.zone.specs.declared.zones.Zone.{Zone as Square}
+use Rattle.table.specs.declared.nodes.NodeEntry.{NodeEntry}
 
--- ---- a word's checks and its fault
+-- ---- a word's checks
 
-same-fault : (a b c a' b' c' : Bool) → a ≡ a' → c ≡ c' → (a ≡ true → b ≡ b') → first_fault a b c ≡ first_fault a' b' c'
-same-fault true b c a' b' c' e f h = rw (← e, f, h refl)
-same-fault false b c a' b' c' e f h = rw (← e)
+same-checks : (a b c a' b' c' : Bool) → a ≡ a' → c ≡ c' → (a ≡ true → b ≡ b') → first_refused a b c ≡ first_refused a' b' c'
+same-checks true b c a' b' c' e f h = rw (← e, f, h refl)
+same-checks false b c a' b' c' e f h = rw (← e)
 
 -- the three tests on a word behind the words before
 module _ (M : Model) (whole : ℕ) (before : List ℕ) (w : ℕ) where
@@ -73,11 +78,11 @@ module _ (M : Model) (m : ModelKept) (i : Indexed M m) (whole : ℕ) (before : L
       by true f = same_rows m (due M before) s a.rows (table_kind_of w) λ e. a.target (behind cut s.opener (rw (named e) at f) row_openers tt)
       by false f = refl
 
-  fault-is : Agrees M m whole before s →
-      fault_at s x.clocks x.locations w ≡ first_fault (kind? M whole before w) (field? M whole before w) (under? M whole before w)
-  unfolding fault_at rows_allow_at? limit_at?
-  fault-is a =
-      same-fault (table_follows? s.opener (kind w) && rows_allow_at? s w) (fields_at? s x.clocks x.locations w) (limit_at? s w)
+  check_is : Agrees M m whole before s →
+      checked s x.clocks x.locations w ≡ first_refused (kind? M whole before w) (field? M whole before w) (under? M whole before w)
+  unfolding checked rows_allow_at? limit_at?
+  check_is a =
+      same-checks (table_follows? s.opener (kind w) && rows_allow_at? s w) (fields_at? s x.clocks x.locations w) (limit_at? s w)
       (kind? M whole before w) (field? M whole before w) (under? M whole before w)
       (same-kinds a)
       (rw a.tallies.nodes)
@@ -85,33 +90,34 @@ module _ (M : Model) (m : ModelKept) (i : Indexed M m) (whole : ℕ) (before : L
 
 -- ---- the pass
 
--- the answer of a pass, if `whole` is that on the whole file
-abbrev answered : TableAnswer → Pass → Answer (Unit {0})
-answered whole q = table_answer (answer_of q.fault q.place whole)
-
 -- an acceptance has no value to judge
-abbrev any : Unit {0} → Type 0
-any u = Unit {0}
+abbrev any : TableRead → Type 0
+any t = Unit {0}
 
-module _ (more : List Check) (whole : TableAnswer) where
+-- what reading the words answers, where the pass comes to this
+abbrev answered : List ℕ → Result Seen Refusal → Answer TableRead
+answered words o = answer_of (read_of o words)
+
+module _ (more : List Check) (words : List ℕ) where
   -- at a word
   step-first :
-      (a b c : Bool) (f : Fault) → f ≡ first_fault a b c → (s : Seen) (k : Kept) (p : ℕ) (go : Pass) →
-      (f ≡ fault.None → First more any (answered whole go)) →
-      First (test 11 p a ∷ test 12 p b ∷ test 13 p c ∷ more) any (answered whole (unless_fault f (pass_at f p s k) go))
-  unfolding unless_fault answer_of table_answer
-  step-first true true true f e s k p go h = rw e (inl (tt, inl (tt, inl (tt, h e))))
-  step-first true true false f e s k p go h = rw e (inl (tt, inl (tt, inr (λ t. t, refl))))
-  step-first true false c f e s k p go h = rw e (inl (tt, inr (λ t. t, refl)))
-  step-first false b c f e s k p go h = rw e (inr (λ t. t, refl))
+      (a b c : Bool) (r : Result (Unit {0}) Reason) → r ≡ first_refused a b c → (k : Kept) (p : ℕ) (go : Pass) →
+      (r ≡ Ok tt → First more any (answered words go.outcome)) →
+      First (test 11 p a ∷ test 12 p b ∷ test 13 p c ∷ more) any (answered words (unless_refused r p k go).outcome)
+  unfolding unless_refused read_of answer_of number
+  step-first true true true r e k p go h = rw e (inl (tt, inl (tt, inl (tt, h e))))
+  step-first true true false r e k p go h = rw e (inl (tt, inl (tt, inr (λ t. t, refl))))
+  step-first true false c r e k p go h = rw e (inl (tt, inr (λ t. t, refl)))
+  step-first false b c r e k p go h = rw e (inr (λ t. t, refl))
 
   -- at the end
   last-first :
-      (c : Bool) (f : Fault) → f ≡ cond c fault.None fault.Kind → (p : ℕ) → (f ≡ fault.None → First more any (table_answer whole)) →
-      First (test 11 p c ∷ more) any (table_answer (answer_of f p whole))
-  unfolding answer_of table_answer
-  last-first true f e p h = rw e (inl (tt, h e))
-  last-first false f e p h = rw e (inr (λ t. t, refl))
+      (c : Bool) (r : Result (Unit {0}) Reason) → r ≡ first_refused c true true → (k : Kept) (p : ℕ) (go : Pass) →
+      (r ≡ Ok tt → First more any (answered words go.outcome)) →
+      First (test 11 p c ∷ more) any (answered words (unless_refused r p k go).outcome)
+  unfolding unless_refused read_of answer_of number
+  last-first true r e k p go h = rw e (inl (tt, h e))
+  last-first false r e k p go h = rw e (inr (λ t. t, refl))
 
 -- the checks 11 to 13 of a table
 abbrev pub checks_of : Model → List ℕ → List Check
@@ -120,30 +126,31 @@ checks_of M words = words_checks M (whole_of (get_or words 0 0)) [] words
 module _ (M : Model) (m : ModelKept) (i : Indexed M m) where
   words-from :
       (whole : ℕ) (before words : List ℕ) (s : Seen) (k : Kept) → Agrees M m whole before s →
-      Heads whole before (get_or words 0 0) → (more : List Check) (end : TableAnswer) →
-      ((scan_from m.index s k (length before) words).fault ≡ fault.None → First more any (table_answer end)) →
-      First (words_checks M whole before words ++ more) any (answered end (scan_from m.index s k (length before) words))
-  unfolding scan_from words_checks word_checks last_fault
-  words-from whole before [] s k a first more end h =
-      last-first more end (eqb (opener_from (table_number no_kind) before) (table_number start_node)) (last_fault s) (rw a.tallies.opener) (length before) h
-  words-from whole before (w ∷ ws) s k a first more end h =
+      Heads whole before (get_or words 0 0) → (more : List Check) (all : List ℕ) →
+      ((t : Seen) → (scan_from m.index s k (length before) words).outcome ≡ Ok t → First more any (answered all (Ok t))) →
+      First (words_checks M whole before words ++ more) any (answered all (scan_from m.index s k (length before) words).outcome)
+  unfolding scan_from words_checks word_checks checked_end
+  words-from whole before [] s k a first more all h =
+      last-first more all (eqb (opener_from (table_number no_kind) before) (table_number start_node)) (checked_end s) (rw a.tallies.opener) k
+      (length before) (pass_at (Ok s) k) λ n. h s (ap (λ (q : Pass). q.outcome) (goes (checked_end s) (length before) k (pass_at (Ok s) k) n))
+  words-from whole before (w ∷ ws) s k a first more all h =
       let p : ℕ = length before in
       let x : Index = m.index in
-      let f : Fault = fault_at s x.clocks x.locations w in
+      let r : Result (Unit {0}) Reason = checked s x.clocks x.locations w in
       let go : Pass = scan_from x (seen_with x s w p) (kept_with s w p k) (suc p) ws in
-      step-first (words_checks M whole (w ∷ before) ws ++ more) end (kind? M whole before w) (field? M whole before w) (under? M whole before w)
-      f (fault-is M m i whole before s w a) s k p go λ n.
+      step-first (words_checks M whole (w ∷ before) ws ++ more) all (kind? M whole before w) (field? M whole before w) (under? M whole before w)
+      r (check_is M m i whole before s w a) k p go λ n.
       words-from whole (w ∷ before) ws (seen_with x s w p) (kept_with s w p k) (agrees_with M m i whole before s w p a n first)
-      (λ e. absurd (omega (arith, ap length e))) more end
-      λ g. h (ap (λ (t : Pass). t.fault) (goes f (pass_at f p s k) go n) ∙ g)
+      (λ e. absurd (omega (arith, ap length e))) more all
+      λ t g. h t (ap (λ (q : Pass). q.outcome) (goes r p k go n) ∙ g)
 
   pub words-first :
-      (words ns : List ℕ) (zs : List ℤ) (more : List Check) (end : TableAnswer) →
-      ((scanned m.index words ns zs).fault ≡ fault.None → First more any (table_answer end)) →
-      First (checks_of M words ++ more) any (answered end (scanned m.index words ns zs))
+      (words : List ℕ) (ns : List NodeEntry) (zs : List Square) (more : List Check) →
+      ((t : Seen) → (scanned m.index words ns zs).outcome ≡ Ok t → First more any (answered words (Ok t))) →
+      First (checks_of M words ++ more) any (answered words (scanned m.index words ns zs).outcome)
   unfolding scanned
-  words-first words ns zs =
-      words-from (whole_of (get_or words 0 0)) [] words nothing (keep ns zs) (agrees-nothing M m _) (λ e. refl)
+  words-first words ns zs more =
+      words-from (whole_of (get_or words 0 0)) [] words nothing (keep ns zs) (agrees-nothing M m _) (λ e. refl) more words
 
   -- ---- the nodes that the pass counts
 
@@ -162,33 +169,54 @@ module _ (M : Model) (m : ModelKept) (i : Indexed M m) (words : List ℕ) where
       let a = agrees-end M m i (whole_of (get_or words 0 0)) [] words nothing 0 (agrees-nothing M m _) (λ e. refl) g in
       a.tallies.nodes ∙ count_reversed (table_number node) words
 
-  pub nodes-scanned : (ns : List ℕ) (zs : List ℤ) → (scanned m.index words ns zs).fault ≡ fault.None →
-      (scanned m.index words ns zs).seen.nodes ≡ count_of (table_number node) words
+  pub nodes-scanned : (ns : List NodeEntry) (zs : List Square) (t : Seen) → (scanned m.index words ns zs).outcome ≡ Ok t →
+      t.nodes ≡ count_of (table_number node) words
   unfolding scanned
-  nodes-scanned ns zs n =
-      let g = run_of m.index nothing (keep ns zs) 0 words n in
-      ap (λ (t : Pass). t.seen.nodes) (end_of m.index nothing (keep ns zs) 0 words g) ∙ nodes-end g
+  nodes-scanned ns zs t n =
+      let g = run_of m.index nothing (keep ns zs) 0 words t n in
+      let e : t ≡ seen_end m.index nothing 0 words = ended m.index nothing (keep ns zs) 0 words t n in
+      rw e (nodes-end g)
 
 -- ---- on the whole file
 
-number-first : (c : Bool) (p : ℕ) (cs : List Check) (end : TableAnswer) → First cs any (table_answer end) →
-    First (test 14 p c ∷ cs) any (table_answer (cond c end (answer.NoNode p)))
-unfolding table_answer
-number-first true p cs end h = inl (tt, h)
-number-first false p cs end h = inr (λ t. t, refl)
+-- the first of the places p and on that is a word's, where there is one
+abbrev missing_from : ℕ → ℕ → ℕ → Option ℕ
+missing_from p at l = cond (ltb at l) (Some (p + at)) None
 
-pub numbers-first : (nodes p : ℕ) (ws : List ℕ) → First (number_checks nodes p ws) any (table_answer (numbers_answer nodes p ws))
-unfolding number_checks numbers_answer table_answer
-numbers-first nodes p [] = tt
-numbers-first nodes p (w ∷ ws) =
-    number-first (not (is_table successor w || is_table start_node w) || ltb (number_of w) nodes) p (number_checks nodes (suc p) ws)
-    (numbers_answer nodes (suc p) ws) (numbers-first nodes (suc p) ws)
+next : (p at l : ℕ) → missing_from p (1 + at) (suc l) ≡ missing_from (suc p) at l
+next p at l = grind (arith, nat_tests)
 
-pub read-says : (M : Model) (m : ModelKept) → Indexed M m → (words ns : List ℕ) (zs : List ℤ) →
-    let q : Pass = scanned m.index words ns zs in
-    First (read_checks M words) (λ (_ : Unit {0}). Unit {0}) (table_answer (answer_of q.fault q.place (numbers_answer q.seen.nodes 0 words)))
-unfolding read_checks
+first-there : (p l : ℕ) → missing_from p 0 (suc l) ≡ Some p
+first-there p l = grind (arith, nat_tests)
+
+from-first : (at l : ℕ) → cond (ltb at l) (Some at) None ≡ missing_from 0 at l
+from-first at l = rw (zero-add at)
+
+-- a number is at least n, or below it
+at-least : (n m : ℕ) → leb n m ≡ not (ltb m n)
+at-least n m = grind (arith, nat_tests)
+
+number-first :
+    (a b : Bool) (p at l : ℕ) (cs : List Check) (t : TableRead) →
+    First cs any (answer_of (unless_missing (missing_from (suc p) at l) t)) →
+    First (test 14 p (not a || b) ∷ cs) any (answer_of (unless_missing (missing_from p (cond (not (a && not b)) (1 + at) 0) (suc l)) t))
+unfolding unless_missing answer_of number
+number-first true true p at l cs t h = inl (tt, rw (next p at l) h)
+number-first true false p at l cs t h = inr (λ t. t, rw (first-there p l))
+number-first false b p at l cs t h = inl (tt, rw (next p at l) h)
+
+pub numbers-first : (nodes p : ℕ) (ws : List ℕ) (t : TableRead) →
+    First (number_checks nodes p ws) any (answer_of (unless_missing (missing_from p (position_or_len (lacks_node? nodes) ws) (length ws)) t))
+unfolding number_checks unless_missing answer_of
+numbers-first nodes p [] t = tt
+numbers-first nodes p (w ∷ ws) t =
+    rw (at-least nodes (number_of w))
+    (number-first (is_table successor w || is_table start_node w) (ltb (number_of w) nodes) p
+    (position_or_len (lacks_node? nodes) ws) (length ws) (number_checks nodes (suc p) ws) t (numbers-first nodes (suc p) ws t))
+
+pub read-says : (M : Model) (m : ModelKept) → Indexed M m → (words : List ℕ) (ns : List NodeEntry) (zs : List Square) →
+    First (read_checks M words) any (answer_of (read_of (scanned m.index words ns zs).outcome words))
+unfolding read_checks read_of
 read-says M m i words ns zs =
     words-first M m i words ns zs (number_checks (count_of (table_number node) words) 0 words)
-    (numbers_answer (scanned m.index words ns zs).seen.nodes 0 words)
-    λ n. rw (nodes-scanned M m i words ns zs n) (numbers-first (count_of (table_number node) words) 0 words)
+    λ t n. rw (from-first (position_or_len (lacks_node? t.nodes) words) (length words), nodes-scanned M m i words ns zs t n) (numbers-first (count_of (table_number node) words) 0 words _)

@@ -1,13 +1,13 @@
--- What a pass without faults keeps of a table's words describes the table that they hold. Assumes nothing.
-use Prim.Native.Nat.{ℕ, suc, ◌+◌, ◌-◌, ◌*◌, ◌≤◌}
-use mathlib.Core.Path.{◌≡◌, refl, sym, ap, subst, ◌∙◌}
+-- What a pass that refuses nothing keeps of a table's words describes the table that they hold. Assumes nothing.
+use Prim.Native.Nat.{ℕ, suc, ◌+◌, ◌-◌, ◌≤◌}
+use mathlib.Core.Path.{◌≡◌, refl, sym, ap, ◌∙◌}
 use mathlib.Core.Logic.{◌≢◌}
 use mathlib.Core.Bool.{false}
 use mathlib.Core.List.{List, [], ◌∷◌}
 use native.Mathlib.Nat.{add-zero, zero-add}
 use native.Mathlib.Numerals.{add-one}
 use native.Mathlib.Omega.{arith}
-use lib.IntN.{ℤ}
+use Rattle.std.proofs.Common.{Ok}
 use lib.ListN.{length, get_or}
 use Rattle.zone.specs.Words.{kind, zone_of}
 use Rattle.zone.specs.Stores.{zone_at}
@@ -22,15 +22,15 @@ use Rattle.table.specs.Fields.{whole_of, number_of}
 use Rattle.table.specs.Table.{Node, leading_bounds, node_of, nodes_of, table_of}
 use Rattle.table.specs.Nodes.{node_count}
 use Rattle.table.specs.Scan.{nothing, seen_with, seen_with_kind}
-use Rattle.table.specs.Index.{Kept, keep, StoresFit, kept_with_kind, kept_with, Pass, scanned, read_at}
+use Rattle.table.specs.Index.{Kept, keep, StoresFit, kept_with_kind, kept_with, scanned, read_at}
 use Rattle.table.specs.Indexed.{NodeIs, TableIndexed}
 use Rattle.table.specs.declared.seen.Seen.{Seen}
-use Rattle.table.specs.declared.seen.Fault.TheVariants as fault
-use Rattle.table.specs.declared.read.TableAnswer.{TableAnswer}
 use Rattle.table.proofs.ScanLaws.{in_row}
-use Rattle.table.proofs.Run.{Run, seen_end, kept_end, run_of, end_of}
+use Rattle.table.proofs.Run.{Run, seen_end, kept_end, run_of, end_of, ended}
 use Rattle.table.proofs.Walk.{Step, a-head, a-node, a-bound, a-value, a-blocked, a-successor, a-start, a-cut, Walk, walk_of}
 use Rattle.table.proofs.Slots.{Good, good_with, KeptAt, kept-end}
+use Rattle.zone.specs.declared.zones.Zone.{Zone as Square}
+use Rattle.table.specs.declared.nodes.NodeEntry.{NodeEntry}
 
 -- ---- the nodes of the words to come
 
@@ -52,7 +52,7 @@ module _ (M : Model) (x : Index) (count : ℕ) (end : Kept) (s : Seen) (w p : �
   describes-with node i (a-node a l) g h d =
       let r = h refl in
       let last : s.nodes + 1 - 1 ≡ s.nodes = omega arith in
-      let room : node_count * 25 ≤ length kept.zones = g.stores.zones in
+      let room : node_count ≤ length kept.zones = g.stores.zones in
       let this : NodeIs end s.nodes (node_of M p w ws) = record {
         location = rw last at r.location;
         value = rw last at r.value;
@@ -173,19 +173,19 @@ starts x s p (w ∷ ws) r n =
 
 -- ---- from the first word
 
-good-nothing : (ns : List ℕ) (zs : List ℤ) → StoresFit ns zs → Good nothing (keep ns zs)
+good-nothing : (ns : List NodeEntry) (zs : List Square) → StoresFit ns zs → Good nothing (keep ns zs)
 good-nothing ns zs f = record { stores = f; limit = omega arith; begun = λ o. absurd (omega arith); location = omega arith }
 
 pub read-indexed :
-    (M : Model) (x : Index) (words ns : List ℕ) (zs : List ℤ) → x.clocks ≤ 4 → StoresFit ns zs → (scanned x words ns zs).fault ≡ fault.None →
-    (a : TableAnswer) → let q : Pass = scanned x words ns zs in TableIndexed (table_of M words) (read_at a q.seen) q.kept
+    (M : Model) (x : Index) (words : List ℕ) (ns : List NodeEntry) (zs : List Square) → x.clocks ≤ 4 → StoresFit ns zs → (t : Seen) →
+    (scanned x words ns zs).outcome ≡ Ok t → TableIndexed (table_of M words) (read_at t) (scanned x words ns zs).kept
 unfolding scanned table_of
-read-indexed M x words ns zs c f h a =
-    let r : Run x nothing 0 words = run_of x nothing (keep ns zs) 0 words h in
+read-indexed M x words ns zs c f t h =
+    let r : Run x nothing 0 words = run_of x nothing (keep ns zs) 0 words t h in
     let walk : Walk x nothing 0 words = walk_of x nothing 0 words c r in
     let d = describes M x nothing (keep ns zs) 0 words walk (good-nothing ns zs f) in
     let b = starts x nothing 0 words walk (λ o. omega arith) in
-    subst (λ (q : Pass). TableIndexed (table_of M words) (read_at a q.seen) q.kept) (sym (end_of x nothing (keep ns zs) 0 words r)) (record {
+    rw (ended x nothing (keep ns zs) 0 words t h, end_of x nothing (keep ns zs) 0 words r) (record {
       whole = whole-end x nothing 0 words walk refl;
       count = d.total ∙ zero-add (length (nodes_of M 0 words));
       limit = d.limit;

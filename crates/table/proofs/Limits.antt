@@ -4,10 +4,11 @@ use mathlib.Core.Path.{◌≡◌, refl}
 use mathlib.Core.Logic.{◌≢◌}
 use mathlib.Core.Bool.{Bool, true, false, not, cond, ◌||◌}
 use native.Mathlib.Omega.{arith}
+use Rattle.std.proofs.Common.{Ok}
 use borrow.Author.Tests.{ltb-true, eqb-true, eqb-false}
 use lib.Dec.{T, eqb}
 use lib.ListN.{get_or}
-use Rattle.zone.specs.Words.{bits, kind, bound_of}
+use Rattle.zone.specs.Words.{bits, kind}
 use Rattle.zone.proofs.Bools.{by-test, false_true, left_true, right_true}
 use Rattle.model.specs.TableKinds.{TableKind, no_kind, table_head, node, node_bound, value, blocked, successor, start_node, cut}
 use Rattle.model.specs.TableKinds.{table_number, table_kinds, table_kind_of}
@@ -18,11 +19,10 @@ use Rattle.model.proofs.KindLaws.{each?, row?}
 use Rattle.table.specs.Fields.{location_of, fields?}
 use Rattle.table.specs.Reading.{limit?}
 use Rattle.table.specs.Nodes.{node_count}
-use Rattle.table.specs.Scan.{nothing, rows_allow_kind?, fault_at, node_openers, one_of?}
+use Rattle.table.specs.Scan.{nothing, rows_allow_kind?, checked, node_openers, one_of?}
 use Rattle.table.specs.Scan.{first_row, end_row, rows_at, edges_at, size_at, with_value, with_row, with_begun, seen_with_kind, seen_with}
-use Rattle.table.specs.Scan.{IndexFits, WithinLimits, SizeAsked}
+use Rattle.table.specs.Scan.{IndexFits, WithinLimits, SizeAsked, KeepAsked}
 use Rattle.table.specs.declared.seen.Seen.{Seen}
-use Rattle.table.specs.declared.seen.Fault.TheVariants as fault
 use Rattle.table.proofs.Passing.{Passes, passes, passes_as, bound-clocks, behind, behind-only, not-one}
 
 -- every kind but a bound is an opener
@@ -246,30 +246,30 @@ limits-nothing x = record {
   rows = λ r. absurd (omega arith);
 }
 
-module _ (x : Index) (s : Seen) (w : ℕ) (fits : IndexFits x) (h : WithinLimits x s) (f : fault_at s x.clocks x.locations w ≡ fault.None) where
+module _ (x : Index) (s : Seen) (w : ℕ) (fits : IndexFits x) (h : WithinLimits x s) (f : checked s x.clocks x.locations w ≡ Ok tt) where
   pub limits_with : (p : ℕ) → WithinLimits x (seen_with x s w p)
   unfolding seen_with
   limits_with p = limits-kind x s fits h w p (table_kind_of w) (passes x s w f)
 
   -- ---- what a word that fails no check says
 
-  -- there is room for a node
-  pub node-room : kind w ≡ table_number node → s.nodes < node_count
-  unfolding limit?
-  node-room e = ltb-true _ _ (passes_as node x s w e f).limit
-
   -- a value stands behind a node, whose location exists
   pub value-node : kind w ≡ table_number value → (1 ≤ s.nodes) × (s.location < x.locations)
   unfolding table_follows numbered?
   value-node e = node-behind x s fits h value tt (passes_as value x s w e f).follows
 
-  -- a bound stands behind a node, and has two of five clocks
-  pub bound-asks : kind w ≡ table_number node_bound → (1 ≤ s.nodes) × ((bound_of w).i < 5) × ((bound_of w).j < 5)
-  unfolding table_follows numbered?
-  bound-asks e =
-      let g = passes_as node_bound x s w e f in
-      let clocks = bound-clocks x s w fits.clocks g in
-      ((node-behind x s fits h node_bound tt g.follows).0, clocks.0, clocks.1)
+  -- there is room for a node, and a bound stands behind one and has two of five clocks
+  pub keep-asked : KeepAsked s w
+  unfolding limit? table_follows numbered?
+  keep-asked = record {
+    nodes = h.nodes;
+    node = λ e. ltb-true _ _ (passes_as node x s w e f).limit;
+    value = λ e. (value-node e).0;
+    bound = λ e.
+        let g = passes_as node_bound x s w e f in
+        let clocks = bound-clocks x s w fits.clocks g in
+        ((node-behind x s fits h node_bound tt g.follows).0, clocks.0, clocks.1);
+  }
 
   -- a word of a row stands where one is due
   pub blocked-asks : kind w ≡ table_number blocked → (1 ≤ s.rows) × SizeAsked x (s.action + 1) (s.rows - 1)

@@ -4,6 +4,9 @@ use mathlib.Core.Path.{◌≡◌, refl, sym, ap, subst, ◌∙◌}
 use mathlib.Core.Logic.{◌≢◌}
 use mathlib.Core.Bool.{Bool, true, false, not, cond, ◌&&◌, ◌||◌}
 use mathlib.Core.List.{List}
+use Rattle.std.proofs.Common.{Result, Ok, Err}
+use Rattle.answers.specs.declared.Reason.{Reason}
+use Rattle.answers.specs.declared.Reason.TheVariants as reason
 use native.Mathlib.Omega.{arith}
 use borrow.Author.Tests.{eq-eqb}
 use lib.Dec.{T, eqb, eqb→eq}
@@ -17,28 +20,19 @@ use Rattle.model.proofs.TableRule.{same?, same}
 use Rattle.model.proofs.KindLaws.{each?, row?, each_row}
 use Rattle.table.specs.Fields.{fields?}
 use Rattle.table.specs.Reading.{limit?}
-use Rattle.table.specs.Scan.{rows_allow_kind?, rows_allow_at?, fields_at?, limit_at?, fault_at, one_of?}
+use Rattle.table.specs.Scan.{rows_allow_kind?, rows_allow_at?, fields_at?, limit_at?, checked, one_of?}
 use Rattle.table.specs.declared.seen.Seen.{Seen}
-use Rattle.table.specs.declared.seen.Fault.{Fault}
-use Rattle.table.specs.declared.seen.Fault.TheVariants as fault
 use Rattle.table.proofs.KindLaws.{kind-is, by_kind}
 
-none? : Fault → Bool
-none? fault.None = true
-none? fault.Kind = false
-none? fault.Field = false
-none? fault.Limit = false
+-- three tests in their order
+abbrev pub first_refused : Bool → Bool → Bool → Result (Unit {0}) Reason
+first_refused a b c = cond a (cond b (cond c (Ok tt) (Err reason.OverTableLimit)) (Err reason.BadTableField)) (Err reason.BadTableKind)
 
--- the fault of three tests in their order
-abbrev pub first_fault : Bool → Bool → Bool → Fault
-first_fault a b c = cond a (cond b (cond c fault.None fault.Limit) fault.Field) fault.Kind
-
-pub all_pass : (a b c : Bool) → first_fault a b c ≡ fault.None → (a ≡ true) × (b ≡ true) × (c ≡ true)
-unfolding none?
+pub all_pass : (a b c : Bool) → first_refused a b c ≡ Ok tt → (a ≡ true) × (b ≡ true) × (c ≡ true)
 all_pass true true true h = (refl, refl, refl)
-all_pass true true false h = false_true (ap none? h)
-all_pass true false c h = false_true (ap none? h)
-all_pass false b c h = false_true (ap none? h)
+all_pass true true false h = absurd cc
+all_pass true false c h = absurd cc
+all_pass false b c h = absurd cc
 
 -- the word w, of the kind k, passes the checks behind words that come to s
 pub record Passes (k : TableKind) (x : Index) (s : Seen) (w : ℕ) : Type 0 where
@@ -48,8 +42,8 @@ pub record Passes (k : TableKind) (x : Index) (s : Seen) (w : ℕ) : Type 0 wher
   pub fields : fields? k x.clocks x.locations s.whole w ≡ true
   pub limit : limit? k s.nodes ≡ true
 
-pub passes : (x : Index) (s : Seen) (w : ℕ) → fault_at s x.clocks x.locations w ≡ fault.None → Passes (table_kind_of w) x s w
-unfolding fault_at fields_at? limit_at? rows_allow_at? fields?
+pub passes : (x : Index) (s : Seen) (w : ℕ) → checked s x.clocks x.locations w ≡ Ok tt → Passes (table_kind_of w) x s w
+unfolding checked fields_at? limit_at? rows_allow_at? fields?
 passes x s w h =
     let follows : Bool = table_follows? s.opener (kind w) in
     let all = all_pass (follows && rows_allow_at? s w) (fields_at? s x.clocks x.locations w) (limit_at? s w) h in
@@ -65,7 +59,7 @@ passes x s w h =
     }
 
 pub passes_as :
-    (k : TableKind) (x : Index) (s : Seen) (w : ℕ) → kind w ≡ table_number k → fault_at s x.clocks x.locations w ≡ fault.None →
+    (k : TableKind) (x : Index) (s : Seen) (w : ℕ) → kind w ≡ table_number k → checked s x.clocks x.locations w ≡ Ok tt →
     Passes k x s w
 passes_as k x s w e h = subst (λ (k : TableKind). Passes k x s w) (kind-is k w e) (passes x s w h)
 

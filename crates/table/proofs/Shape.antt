@@ -11,9 +11,9 @@ use lib.Dec.{T, eqb, ltb, leb→le, ltb→lt, eqb→eq}
 use lib.ListN.{get_or, length, drop, length-drop}
 use lib.Seq.{drop-drop}
 use Rattle.zone.specs.Words.{bits, kind, bound_of, bound_fields?, zone_of}
-use Rattle.zone.specs.Checks.{Check}
+use Rattle.answers.specs.Checks.{Check}
 use Rattle.zone.proofs.Bools.{by-test, false_true, both, is_true}
-use Rattle.zone.proofs.CheckLaws.{AllHold, all_left, all_right}
+use Rattle.answers.proofs.CheckLaws.{AllHold, all_left, all_right}
 use Rattle.model.specs.TableKinds.{TableKind, no_kind, table_head, node, node_bound, value, blocked, successor, start_node, cut}
 use Rattle.model.specs.TableKinds.{table_number, is_table, table_kind_of}
 use Rattle.model.specs.Before.{opener_from, count_of, index_of}

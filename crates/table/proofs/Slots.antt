@@ -1,5 +1,5 @@
 -- What a pass over a table keeps of its nodes and their zones: what a node's words leave, and that no later word changes it. Assumes nothing.
-use Prim.Native.Nat.{ℕ, suc, ◌+◌, ◌-◌, ◌*◌, ◌≤◌, ◌<◌}
+use Prim.Native.Nat.{ℕ, suc, ◌+◌, ◌-◌, ◌≤◌, ◌<◌}
 use mathlib.Core.Path.{◌≡◌, refl, sym, ap, ◌∙◌}
 use mathlib.Core.List.{List, [], ◌∷◌}
 use native.Mathlib.Nat.{add-zero}
@@ -108,7 +108,7 @@ module _ (x : Index) (s : Seen) (w p q : ℕ) (kept : Kept) where
       record { entry = refl; zone = put-apart universe s.nodes kept.zones q (λ e. omega arith) }
   same_with node_bound (a-bound e i j) h =
       let l : suc q < s.nodes = h.apart e in
-      record { entry = refl; zone = word-apart w (s.nodes - 1) kept.zones i j q (λ e. omega arith) }
+      record { entry = refl; zone = word-apart w (s.nodes - 1) kept.zones q (λ e. omega arith) }
   same_with value (a-value e) h =
       let l : suc q < s.nodes = h.apart e in
       record { entry = entry-apart (entry_of s.location w p) (s.nodes - 1) kept.nodes q (λ e. omega arith); zone = refl }
@@ -160,22 +160,22 @@ module _ (x : Index) (s : Seen) (w p : ℕ) (kept : Kept) (ws : List ℕ) (end :
       let r = h e in
       let one : 1 ≤ s.nodes = g.begun o in
       let limit : s.nodes ≤ node_count = g.limit in
-      let room : node_count * 25 ≤ length kept.zones = g.stores.zones in
+      let room : node_count ≤ length kept.zones = g.stores.zones in
       let place : (entry_at end.nodes (s.nodes - 1)).place ≡ suc p + length (leading_bounds ws) = r.place in
       record {
         location = r.location;
         value = rw (bound-leads w ws n) r.value;
         place = rw (bound-leads w ws n) (omega arith);
         zone = rw (bound-leads w ws n)
-            (r.zone ∙ ap (with_bounds (zone_of (leading_bounds ws))) (word-here w (s.nodes - 1) kept.zones i j (omega arith)));
+            (r.zone ∙ ap (with_bounds (zone_of (leading_bounds ws))) (word-here w (s.nodes - 1) kept.zones (omega arith)));
       }
   kept-with value n (a-value e) f h =
       let one : 1 ≤ s.nodes = g.begun o in
       let limit : s.nodes ≤ node_count = g.limit in
       let location : s.location < 16 = g.location in
-      let room : node_count * 3 ≤ length kept.nodes = g.stores.nodes in
+      let room : node_count ≤ length kept.nodes = g.stores.nodes in
       let r = f (record { below = omega arith; apart = λ o. absurd (omega arith) }) in
-      let entry = r.entry ∙ entry_here (entry_of s.location w p) (s.nodes - 1) kept.nodes (omega arith) (omega arith) (omega arith) in
+      let entry = r.entry ∙ entry_here (entry_of s.location w p) (s.nodes - 1) kept.nodes (omega arith) in
       record {
         location = ap (λ (N : NodeEntry). N.location) entry;
         value = rw (value-ends w ws n) (ap (λ (N : NodeEntry). N.value) entry);

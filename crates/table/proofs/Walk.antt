@@ -1,4 +1,4 @@
--- A pass over a table that meets no fault, word by word: what each word may stand behind. Assumes nothing.
+-- A pass over a table that refuses nothing, word by word: what each word may stand behind. Assumes nothing.
 use Prim.Native.Nat.{ℕ, suc, ◌≤◌, ◌<◌}
 use mathlib.Core.Path.{◌≡◌, refl, sym, ap, ◌∙◌}
 use mathlib.Core.Logic.{◌≢◌}
@@ -14,9 +14,9 @@ use Rattle.model.specs.declared.index.Index.{Index}
 use Rattle.table.specs.Fields.{fields?}
 use Rattle.table.specs.Reading.{limit?}
 use Rattle.table.specs.Nodes.{node_count}
-use Rattle.table.specs.Scan.{last_fault, seen_with}
+use Rattle.table.specs.Scan.{checked_end, seen_with}
 use Rattle.table.specs.declared.seen.Seen.{Seen}
-use Rattle.table.specs.declared.seen.Fault.TheVariants as fault
+use Rattle.std.proofs.Common.{Ok}
 use Rattle.table.proofs.Run.{Run}
 use Rattle.table.proofs.Passing.{Passes, passes, all_pass, bound-clocks, behind-only, before-bound, before-value}
 
@@ -26,7 +26,7 @@ pub record Inside (s : Seen) : Type 0 where
   pub not_last : s.opener ≢ table_number start_node
   pub not_first : s.opener ≢ table_number no_kind
 
--- what a word without a fault says of what was seen before it and, if it is a bound, of its clocks, by its kind
+-- what a word that fails no check says of what was seen before it and, if it is a bound, of its clocks, by its kind
 pub data Step (s : Seen) (w : ℕ) : TableKind → Type 0 where
   a-head : s.opener ≡ table_number no_kind → Step s w table_head
   a-node : Inside s → s.nodes < node_count → Step s w node
@@ -63,9 +63,9 @@ step_of successor x s w c g = a-successor (inside s successor g.follows refl ref
 step_of start_node x s w c g = a-start (inside s start_node g.follows refl refl refl)
 step_of cut x s w c g = a-cut (inside s cut g.follows refl refl refl)
 
--- a pass without a fault ends behind the start node
-ends : (s : Seen) → last_fault s ≡ fault.None → s.opener ≡ table_number start_node
-unfolding last_fault
+-- a pass that refuses nothing ends behind the start node
+ends : (s : Seen) → checked_end s ≡ Ok tt → s.opener ≡ table_number start_node
+unfolding checked_end
 ends s h = eqb-true s.opener (table_number start_node) (all_pass (eqb s.opener (table_number start_node)) true true h).0
 
 -- no word fails a check, and none is missing at the end

@@ -1,5 +1,8 @@
 -- Algorithm: one pass over a table's words, and what it leaves for judging. Assumes nothing.
-use Rattle.std.specs.Prelude.{ℕ, suc, ◌-◌, ◌*◌, ◌≤◌, not, cond, ◌||◌, List, [], ◌∷◌, ℤ, length, ltb}
+use Rattle.std.specs.Prelude.{ℕ, suc, ◌-◌, ◌≤◌, Bool, ◌&&◌, ◌||◌, List, [], ◌∷◌, length, leb, position, Option, Some, None, Result, Ok, Err}
+use Rattle.answers.specs.declared.Reason.{Reason}
+use Rattle.answers.specs.declared.Reason.TheVariants as reason
+use Rattle.answers.specs.declared.Refusal.{Refusal}
 use Rattle.zone.specs.Squares.{universe}
 use Rattle.zone.specs.Stores.{put_at, with_word_at}
 use Rattle.model.specs.TableKinds.{TableKind, no_kind, table_head, node, node_bound, value, blocked, successor, start_node, cut}
@@ -7,27 +10,25 @@ use Rattle.model.specs.TableKinds.{is_table, table_kind_of}
 use Rattle.model.specs.declared.index.Index.{Index}
 use Rattle.table.specs.Fields.{number_of}
 use Rattle.table.specs.Nodes.{node_count, entry_of, put_entry}
-use Rattle.table.specs.Scan.{nothing, fault_at, last_fault, seen_with}
+use Rattle.table.specs.Scan.{nothing, checked, checked_end, seen_with}
 use Rattle.table.specs.declared.seen.Seen.{Seen}
-use Rattle.table.specs.declared.seen.Fault.{Fault}
-use Rattle.table.specs.declared.seen.Fault.TheVariants as fault
-use Rattle.table.specs.declared.scan.Scanned.{Scanned}
-use Rattle.table.specs.declared.read.TableAnswer.{TableAnswer}
-use Rattle.table.specs.declared.read.TableAnswer.TheVariants as answer
 use Rattle.table.specs.declared.read.TableRead.{TableRead}
+use Rattle.zone.specs.declared.zones.Zone.{Zone as Square}
+use Rattle.table.specs.declared.nodes.NodeEntry.{NodeEntry}
+use Rattle.answers.specs.Refusals.{refuse}
 
--- what is kept of a table in the lent stores: its nodes and the keys of their zones
+-- what is kept of a table in the lent slices: its nodes and their zones
 pub record Kept : Type 0 where
-  pub nodes : List ℕ
-  pub zones : List ℤ
+  pub nodes : List NodeEntry
+  pub zones : List Square
 
-abbrev pub keep : List ℕ → List ℤ → Kept
+abbrev pub keep : List NodeEntry → List Square → Kept
 keep ns zs = record { nodes = ns; zones = zs }
 
--- the stores have room for the most nodes a table has: three numbers and 25 keys to a node
-pub record StoresFit (ns : List ℕ) (zs : List ℤ) : Type 0 where
-  pub nodes : node_count * 3 ≤ length ns
-  pub zones : node_count * 25 ≤ length zs
+-- the slices have room for the most nodes that a table has
+pub record StoresFit (ns : List NodeEntry) (zs : List Square) : Type 0 where
+  pub nodes : node_count ≤ length ns
+  pub zones : node_count ≤ length zs
 
 -- with the word w, of a kind, at the place p behind words that come to s: a node puts every valuation at its slot, a bound goes to the zone of
 -- the last node, and a value completes what is kept of it
@@ -47,56 +48,45 @@ kept_with s w p k = kept_with_kind (table_kind_of w) s w p k
 
 -- ---- the pass
 
--- what the words come to where the pass ends
+-- what the words come to or the refusal of the first that fails a check or is missing, and what the pass leaves in the stores
 pub record Pass : Type 0 where
-  pub fault : Fault
-  pub place : ℕ
-  pub seen : Seen
+  pub outcome : Result Seen Refusal
   pub kept : Kept
 
-abbrev pub pass_at : Fault → ℕ → Seen → Kept → Pass
-pass_at f p s k = record { fault = f; place = p; seen = s; kept = k }
+abbrev pub pass_at : Result Seen Refusal → Kept → Pass
+pass_at o k = record { outcome = o; kept = k }
 
--- what the code returns, with what it leaves in the stores
-abbrev pub pass_of : Scanned → List ℕ → List ℤ → Pass
-pass_of r ns zs = pass_at r.fault r.place r.seen (keep ns zs)
+-- a check at the place p that fails ends the pass there
+unfoldable pub unless_refused : Result (Unit {0}) Reason → ℕ → Kept → Pass → Pass
+unless_refused (Ok u) p k go = go
+unless_refused (Err r) p k go = pass_at (refuse r p) k
 
--- stops at a fault
-unfoldable pub unless_fault : Fault → Pass → Pass → Pass
-unless_fault fault.None stop go = go
-unless_fault fault.Kind stop go = stop
-unless_fault fault.Field stop go = stop
-unless_fault fault.Limit stop go = stop
-
--- the words, the first of which has index p, up to the first that fails a check or is missing
+-- the words, the first of which has index p
 unfoldable pub scan_from : Index → Seen → Kept → ℕ → List ℕ → Pass
-scan_from x s k p [] = pass_at (last_fault s) p s k
+scan_from x s k p [] = unless_refused (checked_end s) p k (pass_at (Ok s) k)
 scan_from x s k p (w ∷ ws) =
-    let f : Fault = fault_at s x.clocks x.locations w in
-    unless_fault f (pass_at f p s k) (scan_from x (seen_with x s w p) (kept_with s w p k) (suc p) ws)
+    unless_refused (checked s x.clocks x.locations w) p k (scan_from x (seen_with x s w p) (kept_with s w p k) (suc p) ws)
 
 -- the stores hold ns and zs at first
-unfoldable pub scanned : Index → List ℕ → List ℕ → List ℤ → Pass
+unfoldable pub scanned : Index → List ℕ → List NodeEntry → List Square → Pass
 scanned x words ns zs = scan_from x nothing (keep ns zs) 0 words
 
 -- ---- on the whole file
 
--- the answer of a file whose words are good: the first B or C word, from the index p on, whose node is not among so many
-unfoldable pub numbers_answer : ℕ → ℕ → List ℕ → TableAnswer
-numbers_answer nodes p [] = answer.Good
-numbers_answer nodes p (w ∷ ws) =
-    cond (not (is_table successor w || is_table start_node w) || ltb (number_of w) nodes) (numbers_answer nodes (suc p) ws) (answer.NoNode p)
+-- a B or C word's node is not one of so many
+abbrev pub lacks_node? : ℕ → ℕ → Bool
+lacks_node? nodes w = (is_table successor w || is_table start_node w) && leb nodes (number_of w)
 
-unfoldable pub answer_of : Fault → ℕ → TableAnswer → TableAnswer
-answer_of fault.None p whole = whole
-answer_of fault.Kind p whole = answer.BadTableKind p
-answer_of fault.Field p whole = answer.BadTableField p
-answer_of fault.Limit p whole = answer.OverTableLimit p
+-- what is read of words that come to s
+abbrev pub read_at : Seen → TableRead
+read_at s = record { whole = s.whole; count = s.nodes; start = s.start; place = s.place }
 
--- ---- what reading a table leaves: the answer, and beside it what the pass comes to
+-- the place of a word whose node is not there refuses
+unfoldable pub unless_missing : Option ℕ → TableRead → Result TableRead Refusal
+unless_missing None t = Ok t
+unless_missing (Some p) t = refuse reason.NoNode p
 
-abbrev pub read_at : TableAnswer → Seen → TableRead
-read_at a s = record { answer = a; whole = s.whole; count = s.nodes; start = s.start; place = s.place }
-
-abbrev pub read_of : Pass → List ℕ → TableRead
-read_of q words = read_at (answer_of q.fault q.place (numbers_answer q.seen.nodes 0 words)) q.seen
+-- what reading a table gives: the refusal of the pass, or that of the first word whose node is not there, or what was read
+unfoldable pub read_of : Result Seen Refusal → List ℕ → Result TableRead Refusal
+read_of (Ok s) words = unless_missing (position (lacks_node? s.nodes) words) (read_at s)
+read_of (Err r) words = Err r

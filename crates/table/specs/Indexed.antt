@@ -1,6 +1,8 @@
 -- What is kept of a table's words, and the table that they hold: the promise that judging rests on. Assumes nothing.
-use Rattle.std.specs.Prelude.{ℕ, ◌≤◌, ◌≡◌, List, ℤ, length}
-use Rattle.zone.specs.Checks.{First}
+use Rattle.std.specs.Prelude.{ℕ, ◌≤◌, ◌≡◌, List, length, Result, Ok}
+use Rattle.answers.specs.Checks.{First}
+use Rattle.answers.specs.Refusals.{answer_of}
+use Rattle.answers.specs.declared.Refusal.{Refusal}
 use Rattle.zone.specs.Squares.{universe}
 use Rattle.zone.specs.Stores.{zone_at}
 use Rattle.model.specs.Model.{Model}
@@ -8,11 +10,12 @@ use Rattle.model.specs.Indexed.{Each, with_bounds, Indexed}
 use Rattle.model.specs.Index.{Kept as ModelKept}
 use Rattle.model.specs.declared.index.Index.{Index}
 use Rattle.table.specs.Table.{Node, Table, table_of}
-use Rattle.table.specs.Reading.{read_checks, table_answer}
+use Rattle.table.specs.Reading.{read_checks}
 use Rattle.table.specs.Nodes.{node_count, entry_at}
 use Rattle.table.specs.Index.{Kept, keep}
 use Rattle.table.specs.declared.read.TableRead.{TableRead}
-use Rattle.table.specs.declared.read.TableAnswer.TheVariants as answer
+use Rattle.zone.specs.declared.zones.Zone.{Zone as Square}
+use Rattle.table.specs.declared.nodes.NodeEntry.{NodeEntry}
 
 pub record NodeIs (k : Kept) (n : ℕ) (N : Node) : Type 0 where
   pub location : (entry_at k.nodes n).location ≡ N.location
@@ -29,10 +32,10 @@ pub record TableIndexed (W : Table) (t : TableRead) (k : Kept) : Type 0 where
   pub place : t.place ≡ W.place
 
 -- 11 to 14 for a table of the model M and, where none refuses, what is kept of it
-pub record ReadTable (M : Model) (words : List ℕ) (t : TableRead) (k : Kept) : Type 0 where
-  pub says : First (read_checks M words) (λ (_ : Unit {0}). Unit {0}) (table_answer t.answer)
-  pub indexed : t.answer ≡ answer.Good → TableIndexed (table_of M words) t k
+pub record ReadTable (M : Model) (words : List ℕ) (r : Result TableRead Refusal) (k : Kept) : Type 0 where
+  pub says : First (read_checks M words) (λ (t : TableRead). Unit {0}) (answer_of r)
+  pub indexed : (t : TableRead) → r ≡ Ok t → TableIndexed (table_of M words) t k
 
 -- the same for every model that the index may come from; the stores hold ns and zs
-pub record ReadFor (x : Index) (words : List ℕ) (t : TableRead) (ns : List ℕ) (zs : List ℤ) : Type 0 where
-  pub reads : (M : Model) (m : ModelKept) → m.index ≡ x → Indexed M m → ReadTable M words t (keep ns zs)
+pub record ReadFor (x : Index) (words : List ℕ) (r : Result TableRead Refusal) (ns : List NodeEntry) (zs : List Square) : Type 0 where
+  pub reads : (M : Model) (m : ModelKept) → m.index ≡ x → Indexed M m → ReadTable M words r (keep ns zs)

@@ -1,5 +1,5 @@
--- Algorithm: nodes in a store of numbers, three to a node: its location, its value, and the index of its value word. Assumes nothing.
-use Rattle.std.specs.Prelude.{ℕ, ◌+◌, ◌*◌, ◌%◌, ◌^◌, ◌≤◌, List, length, get_or, set}
+-- Algorithm: what is kept of the nodes, in a slice that a caller lends, one to a node. Assumes nothing.
+use Rattle.std.specs.Prelude.{ℕ, ◌<◌, List, length, get_or, set}
 use Rattle.table.specs.Fields.{value_of}
 use Rattle.table.specs.declared.nodes.NodeEntry.{NodeEntry}
 
@@ -11,14 +11,16 @@ node_count = 64
 abbrev pub entry_of : ℕ → ℕ → ℕ → NodeEntry
 entry_of l w p = record { location = l; value = value_of w; place = p }
 
--- the entry of a node; a location and a value are numbers of 32 bits
-unfoldable pub entry_at : List ℕ → ℕ → NodeEntry
-entry_at ns n =
-    record { location = get_or ns (n * 3) 0 % 2 ^ 32; value = get_or ns (n * 3 + 1) 0 % 2 ^ 32; place = get_or ns (n * 3 + 2) 0 }
+-- past the end zeros are read; no index of the code reaches them
+abbrev pub no_entry : NodeEntry
+no_entry = record { location = 0; value = 0; place = 0 }
 
-unfoldable pub put_entry : NodeEntry → ℕ → List ℕ → List ℕ
-put_entry N n ns = set (set (set ns (n * 3) N.location) (n * 3 + 1) N.value) (n * 3 + 2) N.place
+abbrev pub entry_at : List NodeEntry → ℕ → NodeEntry
+entry_at ns n = get_or ns n no_entry
 
--- the store has a node of that number
-pub record HasNode (n : ℕ) (ns : List ℕ) : Type 0 where
-  pub room : n * 3 + 3 ≤ length ns
+abbrev pub put_entry : NodeEntry → ℕ → List NodeEntry → List NodeEntry
+put_entry N n ns = set ns n N
+
+-- the slice has a node of that number
+pub record HasNode (n : ℕ) (ns : List NodeEntry) : Type 0 where
+  pub room : n < length ns

@@ -1,7 +1,7 @@
 -- Document 01, "The four calls and their refusals", and document 02, card 1: the refusals of a table's words, 11 to 14. Assumes nothing.
 use Rattle.std.specs.Prelude.{ℕ, suc, Bool, true, false, not, cond, ◌&&◌, ◌||◌, List, [], ◌∷◌, ◌++◌, get_or, length, drop, eqb, ltb}
 use Rattle.zone.specs.Words.{kind}
-use Rattle.zone.specs.Checks.{Answer, refused, accepted, Check, test}
+use Rattle.answers.specs.Checks.{Check, test}
 use Rattle.model.specs.TableKinds.{TableKind, no_kind, table_head, node, node_bound, value, blocked, successor, start_node, cut}
 use Rattle.model.specs.TableKinds.{table_number, is_table, table_kind_of}
 use Rattle.model.specs.Before.{opener_from, count_of}
@@ -10,8 +10,6 @@ use Rattle.model.specs.Model.{Action, Model}
 use Rattle.model.specs.States.{location_at}
 use Rattle.table.specs.Fields.{whole_of, location_of, number_of, fields?}
 use Rattle.table.specs.Table.{row_actions}
-use Rattle.table.specs.declared.read.TableAnswer.{TableAnswer}
-use Rattle.table.specs.declared.read.TableAnswer.TheVariants as answer
 
 -- ---- what stands before a word; `before` lists those words, the last one first
 
@@ -122,11 +120,3 @@ number_checks nodes p (w ∷ ws) =
 -- 11 to 13 word by word, then on the whole file 14
 unfoldable pub read_checks : Model → List ℕ → List Check
 read_checks M words = words_checks M (whole_of (get_or words 0 0)) [] words ++ number_checks (count_of (table_number node) words) 0 words
-
--- what each case of an answer says in the document's numbers
-unfoldable pub table_answer : TableAnswer → Answer (Unit {0})
-table_answer answer.Good = accepted tt
-table_answer (answer.BadTableKind p) = refused 11 p
-table_answer (answer.BadTableField p) = refused 12 p
-table_answer (answer.OverTableLimit p) = refused 13 p
-table_answer (answer.NoNode p) = refused 14 p

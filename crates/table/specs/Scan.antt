@@ -1,6 +1,9 @@
--- Algorithm: what the words read so far come to, and the first check that the next word fails. Assumes nothing.
+-- Algorithm: what the words read so far come to, and the checks of the next word. Assumes nothing.
 use Rattle.std.specs.Prelude.{ℕ, ◌+◌, ◌-◌, ◌≤◌, ◌<◌, ◌≡◌, Bool, true, false, not, cond, ◌&&◌, List, [], ◌∷◌, get_or, eqb, ltb}
-use Rattle.zone.specs.Words.{kind}
+use Rattle.std.specs.Prelude.{Result, Ok, Err}
+use Rattle.answers.specs.declared.Reason.{Reason}
+use Rattle.answers.specs.declared.Reason.TheVariants as reason
+use Rattle.zone.specs.Words.{kind, bound_of}
 use Rattle.model.specs.TableKinds.{TableKind, no_kind, table_head, node, node_bound, value, blocked, successor, start_node, cut}
 use Rattle.model.specs.TableKinds.{table_number, table_kind_of}
 use Rattle.model.specs.Grammar.{numbered?, table_follows?}
@@ -10,8 +13,6 @@ use Rattle.table.specs.Fields.{whole_of, location_of, number_of, fields?}
 use Rattle.table.specs.Reading.{limit?}
 use Rattle.table.specs.Nodes.{node_count}
 use Rattle.table.specs.declared.seen.Seen.{Seen}
-use Rattle.table.specs.declared.seen.Fault.{Fault}
-use Rattle.table.specs.declared.seen.Fault.TheVariants as fault
 
 abbrev pub nothing : Seen
 nothing =
@@ -51,17 +52,18 @@ fields_at? s clocks locations w = fields? (table_kind_of w) clocks locations s.w
 unfoldable pub limit_at? : Seen → ℕ → Bool
 limit_at? s w = limit? (table_kind_of w) s.nodes
 
-unfoldable pub fault_at : Seen → ℕ → ℕ → ℕ → Fault
-fault_at s clocks locations w =
+-- at one word the lowest number wins
+unfoldable pub checked : Seen → ℕ → ℕ → ℕ → Result (Unit {0}) Reason
+checked s clocks locations w =
     cond (table_follows? s.opener (kind w) && rows_allow_at? s w)
     (cond (fields_at? s clocks locations w)
-    (cond (limit_at? s w) fault.None fault.Limit)
-    fault.Field)
-    fault.Kind
+    (cond (limit_at? s w) (Ok tt) (Err reason.OverTableLimit))
+    (Err reason.BadTableField))
+    (Err reason.BadTableKind)
 
 -- the words may end behind the start node alone; elsewhere a word is missing where they end
-unfoldable pub last_fault : Seen → Fault
-last_fault s = cond (eqb s.opener (table_number start_node)) fault.None fault.Kind
+unfoldable pub checked_end : Seen → Result (Unit {0}) Reason
+checked_end s = cond (eqb s.opener (table_number start_node)) (Ok tt) (Err reason.BadTableKind)
 
 -- ---- rows, by a model's index
 
@@ -92,87 +94,30 @@ size_at x a rows = cond (eqb rows 0) 0 (edges_at x a)
 -- ---- what the words come to with a word more
 
 abbrev pub with_head : Seen → ℕ → Seen
-with_head s w =
-    record {
-      opener = table_number table_head;
-      whole = whole_of w;
-      nodes = s.nodes;
-      location = s.location;
-      target = s.target;
-      action = s.action;
-      rows = s.rows;
-      size = s.size;
-      begun = s.begun;
-      start = s.start;
-      place = s.place;
-    }
+with_head s w = record s { opener = table_number table_head; whole = whole_of w }
 
 abbrev pub with_node : Seen → ℕ → Seen
-with_node s w =
-    record {
-      opener = table_number node;
-      whole = s.whole;
-      nodes = s.nodes + 1;
-      location = location_of w;
-      target = s.target;
-      action = s.action;
-      rows = s.rows;
-      size = s.size;
-      begun = s.begun;
-      start = s.start;
-      place = s.place;
-    }
+with_node s w = record s { opener = table_number node; nodes = s.nodes + 1; location = location_of w }
 
 -- the rows of the node's location are due
 abbrev pub with_value : Index → Seen → Seen
 with_value x s =
-    record {
+    record s {
       opener = table_number value;
-      whole = s.whole;
-      nodes = s.nodes;
-      location = s.location;
       target = get_or x.targets s.location false;
       action = first_row x s.location;
       rows = rows_at x s.location;
       size = size_at x (first_row x s.location) (rows_at x s.location);
       begun = 0;
-      start = s.start;
-      place = s.place;
     }
 
 -- a row is complete with a word of the number o, and the next action's is due, if any
 abbrev pub with_row : Index → Seen → ℕ → Seen
-with_row x s o =
-    record {
-      opener = o;
-      whole = s.whole;
-      nodes = s.nodes;
-      location = s.location;
-      target = s.target;
-      action = s.action + 1;
-      rows = s.rows - 1;
-      size = size_at x (s.action + 1) (s.rows - 1);
-      begun = 0;
-      start = s.start;
-      place = s.place;
-    }
+with_row x s o = record s { opener = o; action = s.action + 1; rows = s.rows - 1; size = size_at x (s.action + 1) (s.rows - 1); begun = 0 }
 
 -- a successor that is not the last of its row
 abbrev pub with_begun : Seen → Seen
-with_begun s =
-    record {
-      opener = table_number successor;
-      whole = s.whole;
-      nodes = s.nodes;
-      location = s.location;
-      target = s.target;
-      action = s.action;
-      rows = s.rows;
-      size = s.size;
-      begun = s.begun + 1;
-      start = s.start;
-      place = s.place;
-    }
+with_begun s = record s { opener = table_number successor; begun = s.begun + 1 }
 
 -- a successor completes a row where it is the last of its B words
 abbrev pub with_successor : Index → Seen → Seen
@@ -180,36 +125,10 @@ with_successor x s = cond (eqb (s.begun + 1) s.size) (with_row x s (table_number
 
 -- two successors are due, as if they were the one row that the node has
 abbrev pub with_cut : Seen → Seen
-with_cut s =
-    record {
-      opener = table_number cut;
-      whole = s.whole;
-      nodes = s.nodes;
-      location = s.location;
-      target = s.target;
-      action = 0;
-      rows = 1;
-      size = 2;
-      begun = 0;
-      start = s.start;
-      place = s.place;
-    }
+with_cut s = record s { opener = table_number cut; action = 0; rows = 1; size = 2; begun = 0 }
 
 abbrev pub with_start : Seen → ℕ → ℕ → Seen
-with_start s w p =
-    record {
-      opener = table_number start_node;
-      whole = s.whole;
-      nodes = s.nodes;
-      location = s.location;
-      target = s.target;
-      action = s.action;
-      rows = s.rows;
-      size = s.size;
-      begun = s.begun;
-      start = number_of w;
-      place = p;
-    }
+with_start s w p = record s { opener = table_number start_node; start = number_of w; place = p }
 
 unfoldable pub seen_with_kind : TableKind → Index → Seen → ℕ → ℕ → Seen
 seen_with_kind no_kind x s w p = s
@@ -261,3 +180,10 @@ pub record WithinLimits (x : Index) (s : Seen) : Type 0 where
 pub record SizeAsked (x : Index) (a rows : ℕ) : Type 0 where
   pub action : a + rows ≤ 32
   pub edges : 1 ≤ rows → get_or x.edges a 0 ≤ get_or x.edges (a + 1) 0
+
+-- what keeping a word asks: a node and its value have a slot in the stores, and a bound two of five clocks
+pub record KeepAsked (s : Seen) (w : ℕ) : Type 0 where
+  pub nodes : s.nodes ≤ node_count
+  pub node : kind w ≡ table_number node → s.nodes < node_count
+  pub value : kind w ≡ table_number value → 1 ≤ s.nodes
+  pub bound : kind w ≡ table_number node_bound → (1 ≤ s.nodes) × ((bound_of w).i < 5) × ((bound_of w).j < 5)

@@ -3,6 +3,7 @@
 
 pub mod fields; // fields.rt: the fields of a table's words
 pub mod nodes; // nodes.rt: what is kept of a node
-mod seen; // seen.rt: what the words read so far come to, and the fault of the next
+mod due; // due.rt: how many rows a node has, and how many words a row
+mod seen; // seen.rt: what the words read so far come to, and the checks of the next
 mod scan; // scan.rt: one pass over the words
 pub mod read; // read.rt: a table's nodes, or the refusal with its place

@@ -1,62 +1,65 @@
-// One pass over a table's words: the first fault, or in the lent stores the nodes and their zones.
-ghost use Rattle.std.specs.Prelude.{◌≡◌};
-ghost use Rattle.table.specs.Scan.{IndexFits};
-ghost use Rattle.table.specs.Index.{StoresFit, pass_of, scanned};
+// One pass over a table's words: what they come to, or the first refusal. It keeps the nodes and their zones in the lent stores.
+ghost use Rattle.std.specs.Prelude.{◌≡◌, ◌≢◌};
+ghost use Rattle.zone.specs.Words.{kind};
+ghost use Rattle.model.specs.TableKinds.{node_bound, table_number};
+ghost use Rattle.table.specs.Scan.{IndexFits, KeepAsked};
+ghost use Rattle.table.specs.Index.{keep, kept_with, StoresFit, pass_at, scanned};
 
+use crate::due::Rows;
 use crate::nodes::NodeEntry;
-use crate::seen::{Fault, Seen};
+use crate::seen::Seen;
+use answers::Refusal;
 use model::index::Index;
 use model::kinds;
+use zone::words;
 use zone::zones::Zone;
-use zone::{stores, words};
 
-// What the words come to, up to the first that fails a check or is missing.
-#[derive(Clone, Copy)]
-pub(crate) struct Scanned {
-    pub fault: Fault,
-    pub place: usize,
-    pub seen: Seen,
+/// Keeps what a node's word or its value says at a place: its zone begins as every valuation, and the value completes what is kept of it.
+pub(crate) fn keep_node(
+    nodes: &mut [NodeEntry],
+    zones: &mut [Zone],
+    seen: &Seen,
+    word: u32,
+    place: usize,
+)
+    requires room { StoresFit nodes.old zones.old }
+    requires asked { KeepAsked seen.now word }
+    requires other { kind word ≢ table_number node_bound }
+    ensures { keep nodes.new zones.new ≡ kept_with seen.now word place (keep nodes.old zones.old) }
+{
+    match words::kind_of(word) {
+        kinds::NODE => zones[seen.nodes] = Zone::universe(),
+        kinds::VALUE => nodes[seen.nodes - 1] = NodeEntry::of(seen.location, word, place),
+        _ => {}
+    }
 }
 
-// One pass over the words. A node's zone begins as every valuation, each bound is picked in place, and a value completes what is kept of the
-// node. Bounds come first, since most words of a long file are.
-pub(crate) fn scan(index: Index, list: &[u32], nodes: &mut [usize], zones: &mut [i32]) -> Scanned
-    requires { IndexFits index × StoresFit nodes.old zones.old }
-    ensures { pass_of result nodes.new zones.new ≡ scanned index list.now nodes.old zones.old }
+/// One pass over the words, up to the first that fails a check. Each bound is picked in place; bounds come first, since most words of a long file
+/// are.
+pub(crate) fn scan(
+    index: &Index,
+    list: &[u32],
+    nodes: &mut [NodeEntry],
+    zones: &mut [Zone],
+) -> Result<Seen, Refusal>
+    requires { IndexFits index.now × StoresFit nodes.old zones.old }
+    ensures { pass_at result (keep nodes.new zones.new) ≡ scanned index.now list.now nodes.old zones.old }
 {
+    let rows = Rows { index };
     let mut seen = Seen::NOTHING;
     let follows = kinds::FOLLOWS; // once, not at each word
-    for at in 0..list.len() {
-        let word = list[at];
+    for (at, &word) in list.iter().enumerate() {
         let kind = words::kind_of(word);
         let allowed = follows[seen.opener as usize][kind as usize];
-        let fault = seen.fault(allowed, index.clocks, index.locations, word);
-        let Fault::None = fault else {
-            return Scanned {
-                fault,
-                place: at,
-                seen,
-            };
-        };
+        seen.check(allowed, index.clocks, index.locations, word)
+            .map_err(|reason| reason.at(at))?;
         if kind == kinds::BOUND {
-            stores::add_bound(zones, seen.nodes - 1, word);
+            zones[seen.nodes - 1].add_bound(word);
             continue;
         }
-        match kind {
-            kinds::NODE => {
-                Zone::universe().put(zones, seen.nodes);
-            }
-            kinds::VALUE => {
-                NodeEntry::of(seen.location, word, at).put(nodes, seen.nodes - 1);
-            }
-            _ => {}
-        }
-        seen = seen.with_word(index, word, at);
+        keep_node(nodes, zones, &seen, word, at);
+        seen.add(rows, word, at);
     }
-    let fault = seen.last_fault();
-    Scanned {
-        fault,
-        place: list.len(),
-        seen,
-    }
+    seen.check_end().map_err(|reason| reason.at(list.len()))?;
+    Ok(seen)
 }

@@ -1,21 +1,23 @@
-// What the words of a table read so far come to, and the first check that the next word fails.
-ghost use Rattle.std.specs.Prelude.{◌≡◌, ℕ, ◌+◌, ◌-◌, ◌<◌, ◌≤◌};
+// What the words of a table read so far come to, and the checks of the next word.
+ghost use Rattle.std.specs.Prelude.{◌≡◌, ℕ, ◌+◌, ◌-◌, ◌<◌, ◌≤◌, Ok};
 ghost use Rattle.zone.specs.Words.{kind};
 ghost use Rattle.model.specs.TableKinds.{node_bound, table_number};
 ghost use Rattle.model.specs.Grammar.{table_follows?};
-ghost use Rattle.table.specs.Scan.{rows_allow_at?, fields_at?, limit_at?, fault_at, last_fault};
+ghost use Rattle.table.specs.Scan.{rows_allow_at?, fields_at?, limit_at?, checked, checked_end};
 ghost use Rattle.table.specs.Scan.{with_head, with_node, with_value, with_row, with_successor, with_cut, with_start, seen_with};
-ghost use Rattle.table.specs.Scan.{rows_at, size_at, SizeAsked, IndexFits, WithinLimits};
-ghost use Rattle.table.specs.declared.seen.Fault.TheVariants as fault;
+ghost use Rattle.table.specs.Scan.{SizeAsked, WithinLimits};
 
+use crate::due::Rows;
 use crate::fields;
-use model::index::Index;
+use answers::Reason;
 use model::kinds;
 use zone::words;
 
-// What the words read so far come to, for the checks of the next word and for the nodes.
+/// What the words read so far come to, for the checks of the next word and for the nodes.
+// kept: `rows`, `size` and `begun` are no Option of a row, since the size of a row is asked while none is begun, and no rows says that none is due.
 #[derive(Clone, Copy)]
 pub(crate) struct Seen {
+    // kept: the kinds are numbers here, since with an enum of them a judged bound word took 78 instructions in place of 66 (tried)
     pub opener: u32, // the kind of the last word that is no bound
     pub whole: u32, // V, of the head
     pub nodes: usize, // how many there are
@@ -27,37 +29,6 @@ pub(crate) struct Seen {
     pub begun: usize, // how many of those stand
     pub start: u32, // the number of the start node
     pub place: usize, // the index of the start node's word
-}
-
-// The first check that a word fails.
-#[derive(Clone, Copy)]
-pub(crate) enum Fault {
-    None,
-    Kind,
-    Field,
-    Limit,
-}
-
-// How many rows a node of a location has: one per action, none at a target.
-pub(crate) fn rows_at(index: Index, location: usize) -> usize
-    requires { IndexFits index × (location < index.locations) }
-    ensures { result ≡ rows_at index location }
-{
-    if index.targets[location] {
-        return 0;
-    }
-    index.actions[location + 1] as usize - index.actions[location] as usize
-}
-
-// How many successors the row of an action has, one per edge; 0 where no row is due.
-pub(crate) fn size_at(index: Index, action: usize, rows: usize) -> usize
-    requires { SizeAsked index action rows }
-    ensures { result ≡ size_at index action rows }
-{
-    if rows == 0 {
-        return 0;
-    }
-    index.edges[action + 1] as usize - index.edges[action] as usize
 }
 
 impl Seen {
@@ -75,12 +46,11 @@ impl Seen {
         place: 0,
     };
 
-    // Whether the rows that are still due or, for a cut, the location let a word of that kind stand here.
-    pub(crate) fn rows_allow(self, word: u32) -> bool
-        ensures { result ≡ rows_allow_at? self word }
+    /// Whether the rows that are still due or, for a cut, the location let a word of that kind stand here.
+    pub(crate) fn rows_allow(&self, word: u32) -> bool
+        ensures { result ≡ rows_allow_at? self.now word }
     {
-        let kind = words::kind_of(word);
-        match kind {
+        match words::kind_of(word) {
             kinds::NODE => self.rows == 0,
             kinds::BLOCKED => (0 < self.rows) & (self.begun == 0),
             kinds::SUCCESSOR => 0 < self.rows,
@@ -90,12 +60,11 @@ impl Seen {
         }
     }
 
-    // Whether the fields of a word are in their ranges and its spare bits zero.
-    pub(crate) fn fields(self, clocks: u32, locations: usize, word: u32) -> bool
-        ensures { result ≡ fields_at? self clocks locations word }
+    /// Whether the fields of a word are in their ranges and its spare bits zero.
+    pub(crate) fn fields(&self, clocks: u32, locations: usize, word: u32) -> bool
+        ensures { result ≡ fields_at? self.now clocks locations word }
     {
-        let kind = words::kind_of(word);
-        match kind {
+        match words::kind_of(word) {
             kinds::BOUND => words::bound_fields(clocks, word),
             kinds::TABLE_HEAD => fields::head_fields(word),
             kinds::NODE => fields::node_fields(locations, word),
@@ -108,167 +77,161 @@ impl Seen {
         }
     }
 
-    // Whether one more of the word's kind is within its limit.
-    pub(crate) fn limit(self, word: u32) -> bool
-        ensures { result ≡ limit_at? self word }
+    /// Whether one more of the word's kind is within its limit.
+    pub(crate) fn limit(&self, word: u32) -> bool
+        ensures { result ≡ limit_at? self.now word }
     {
-        !(words::kind_of(word) == kinds::NODE) | (self.nodes < 64)
+        (words::kind_of(word) != kinds::NODE) | (self.nodes < 64)
     }
 
-    // The first check that a bound word fails: no row asks for it, and it has no limit. Most words of a long file are bounds, so they are asked
-    // no more than that.
-    pub(crate) fn bound_fault(self, allowed: bool, clocks: u32, word: u32) -> Fault
-        requires { (kind word ≡ table_number node_bound) × (allowed ≡ table_follows? self.opener (kind word)) }
-        ensures { (locations : ℕ) → result ≡ fault_at self clocks locations word }
+    /// The checks of a bound word: no row asks for it, and it has no limit. Most words of a long file are bounds, so they are asked no more than
+    /// that.
+    #[tactic(auto, unfolding(crate::specs::Scan::checked))]
+    pub(crate) fn check_bound(&self, allowed: bool, clocks: u32, word: u32) -> Result<(), Reason>
+        requires { (kind word ≡ table_number node_bound) × (allowed ≡ table_follows? self.now.opener (kind word)) }
+        ensures { (locations : ℕ) → result ≡ checked self.now clocks locations word }
     {
         if !allowed {
-            return Fault::Kind;
+            return Err(Reason::BadTableKind);
         }
         if !words::bound_fields(clocks, word) {
-            return Fault::Field;
+            return Err(Reason::BadTableField);
         }
-        Fault::None
+        Ok(())
     }
 
-    // The first check that a word fails, where the constant table says whether it is allowed behind the opener.
-    pub(crate) fn fault(self, allowed: bool, clocks: u32, locations: usize, word: u32) -> Fault
-        requires { allowed ≡ table_follows? self.opener (kind word) }
-        ensures { result ≡ fault_at self clocks locations word }
+    /// The checks of a word, where the constant table says whether it is allowed behind the opener: the first that fails refuses.
+    #[tactic(auto, unfolding(crate::specs::Scan::checked))]
+    pub(crate) fn check(
+        &self,
+        allowed: bool,
+        clocks: u32,
+        locations: usize,
+        word: u32,
+    ) -> Result<(), Reason>
+        requires { allowed ≡ table_follows? self.now.opener (kind word) }
+        ensures { result ≡ checked self.now clocks locations word }
     {
         if words::kind_of(word) == kinds::BOUND {
-            return self.bound_fault(allowed, clocks, word);
+            return self.check_bound(allowed, clocks, word);
         }
         if !(allowed & self.rows_allow(word)) {
-            return Fault::Kind;
+            return Err(Reason::BadTableKind);
         }
         if !self.fields(clocks, locations, word) {
-            return Fault::Field;
+            return Err(Reason::BadTableField);
         }
         if !self.limit(word) {
-            return Fault::Limit;
+            return Err(Reason::OverTableLimit);
         }
-        Fault::None
+        Ok(())
     }
 
-    // The fault at the end of the words: unless the start node was read, a word is missing.
-    pub(crate) fn last_fault(self) -> Fault
-        ensures { result ≡ last_fault self }
+    /// The check at the end of the words: unless the start node was read, a word is missing.
+    #[tactic(auto, unfolding(crate::specs::Scan::checked_end))]
+    pub(crate) fn check_end(&self) -> Result<(), Reason>
+        ensures { result ≡ checked_end self.now }
     {
         if self.opener == kinds::START_NODE {
-            return Fault::None;
+            return Ok(());
         }
-        Fault::Kind
+        Err(Reason::BadTableKind)
     }
 
-    // With a head word.
-    pub(crate) fn with_head(self, word: u32) -> Seen
-        ensures { result ≡ with_head self word }
+    /// Adds a head word.
+    pub(crate) fn add_head(&mut self, word: u32)
+        ensures { self.new ≡ with_head self.old word }
     {
-        let mut next = self;
-        next.opener = kinds::TABLE_HEAD;
-        next.whole = fields::whole_of(word);
-        next
+        self.opener = kinds::TABLE_HEAD;
+        self.whole = fields::value_of(word);
     }
 
-    // With a node word.
-    pub(crate) fn with_node(self, word: u32) -> Seen
-        requires { self.nodes ≤ 64 }
-        ensures { result ≡ with_node self word }
+    /// Adds a node word.
+    pub(crate) fn add_node(&mut self, word: u32)
+        requires { self.old.nodes ≤ 64 }
+        ensures { self.new ≡ with_node self.old word }
     {
-        let mut next = self;
-        next.opener = kinds::NODE;
-        next.nodes = self.nodes + 1;
-        next.location = fields::location_of(word);
-        next
+        self.opener = kinds::NODE;
+        self.nodes += 1;
+        self.location = fields::location_of(word);
     }
 
-    // With a value word, behind which the rows of the node's location are due.
-    pub(crate) fn with_value(self, index: Index) -> Seen
-        requires { IndexFits index × (self.location < index.locations) }
-        ensures { result ≡ with_value index self }
+    /// Adds a value word, behind which the rows of the node's location are due.
+    pub(crate) fn add_value(&mut self, rows: Rows)
+        requires { self.old.location < rows.index.now.locations }
+        ensures { self.new ≡ with_value rows.entry.index.now self.old }
     {
-        let l = self.location as usize;
-        let first = index.actions[l] as usize;
-        let rows = rows_at(index, l);
-        let mut next = self;
-        next.opener = kinds::VALUE;
-        next.target = index.targets[l];
-        next.action = first;
-        next.rows = rows;
-        next.size = size_at(index, first, rows);
-        next.begun = 0;
-        next
+        let location = self.location as usize;
+        self.opener = kinds::VALUE;
+        self.target = rows.index.targets[location];
+        self.action = rows.index.actions[location] as usize;
+        self.rows = rows.of(location);
+        self.size = rows.size(self.action, self.rows);
+        self.begun = 0;
     }
 
-    // With the last word of a row, of that kind: the next action's row is due, if any.
-    pub(crate) fn with_row(self, index: Index, kind: u32) -> Seen
-        requires { (1 ≤ self.rows) × SizeAsked index (self.action + 1) (self.rows - 1) }
-        ensures { result ≡ with_row index self kind }
+    /// Adds the last word of a row, of that kind: the next action's row is due, if any.
+    // kept: `SizeAsked` is a fact of the rows due and the index together, and no value holds both, so three contracts state it.
+    pub(crate) fn add_row(&mut self, rows: Rows, kind: u32)
+        requires { (1 ≤ self.old.rows) × SizeAsked rows.index.now (self.old.action + 1) (self.old.rows - 1) }
+        ensures { self.new ≡ with_row rows.entry.index.now self.old kind }
     {
-        let action = self.action + 1;
-        let rows = self.rows - 1;
-        let mut next = self;
-        next.opener = kind;
-        next.action = action;
-        next.rows = rows;
-        next.size = size_at(index, action, rows);
-        next.begun = 0;
-        next
+        self.opener = kind;
+        self.action += 1;
+        self.rows -= 1;
+        self.size = rows.size(self.action, self.rows);
+        self.begun = 0;
     }
 
-    // With a successor.
-    pub(crate) fn with_successor(self, index: Index) -> Seen
-        requires { (1 ≤ self.rows) × SizeAsked index (self.action + 1) (self.rows - 1) × (self.begun < self.size) × (self.size ≤ 128) }
-        ensures { result ≡ with_successor index self }
+    /// Adds a successor.
+    pub(crate) fn add_successor(&mut self, rows: Rows)
+        requires { (1 ≤ self.old.rows) × SizeAsked rows.index.now (self.old.action + 1) (self.old.rows - 1) × (self.old.begun < self.old.size)
+            × (self.old.size ≤ 128) }
+        ensures { self.new ≡ with_successor rows.entry.index.now self.old }
     {
         if self.begun + 1 == self.size {
-            return self.with_row(index, kinds::SUCCESSOR);
+            self.add_row(rows, kinds::SUCCESSOR);
+        } else {
+            self.opener = kinds::SUCCESSOR;
+            self.begun += 1;
         }
-        let mut next = self;
-        next.opener = kinds::SUCCESSOR;
-        next.begun = self.begun + 1;
-        next
     }
 
-    // With a cut, behind which two successors are due in place of all rows.
-    pub(crate) fn with_cut(self) -> Seen
-        ensures { result ≡ with_cut self }
+    /// Adds a cut, behind which two successors are due in place of all rows.
+    pub(crate) fn add_cut(&mut self)
+        ensures { self.new ≡ with_cut self.old }
     {
-        let mut next = self;
-        next.opener = kinds::CUT;
-        next.action = 0;
-        next.rows = 1;
-        next.size = 2;
-        next.begun = 0;
-        next
+        self.opener = kinds::CUT;
+        self.action = 0;
+        self.rows = 1;
+        self.size = 2;
+        self.begun = 0;
     }
 
-    // With the start node's word at a place.
-    pub(crate) fn with_start(self, word: u32, place: usize) -> Seen
-        ensures { result ≡ with_start self word place }
+    /// Adds the start node's word at a place.
+    pub(crate) fn add_start(&mut self, word: u32, place: usize)
+        ensures { self.new ≡ with_start self.old word place }
     {
-        let mut next = self;
-        next.opener = kinds::START_NODE;
-        next.start = fields::number_of(word);
-        next.place = place;
-        next
+        self.opener = kinds::START_NODE;
+        self.start = fields::number_of(word);
+        self.place = place;
     }
 
-    // With a word that fails no check, at a place. A bound changes nothing here.
-    pub(crate) fn with_word(self, index: Index, word: u32, place: usize) -> Seen
-        requires { IndexFits index × WithinLimits index self × (fault_at self index.clocks index.locations word ≡ fault.None) }
-        ensures { result ≡ seen_with index self word place }
+    /// Adds a word that passes its checks, at a place. A bound changes nothing here.
+    pub(crate) fn add(&mut self, rows: Rows, word: u32, place: usize)
+        requires limits { WithinLimits rows.index.now self.old }
+        requires passes { checked self.old rows.index.now.clocks rows.index.now.locations word ≡ Ok tt }
+        ensures { self.new ≡ seen_with rows.entry.index.now self.old word place }
     {
-        let kind = words::kind_of(word);
-        match kind {
-            kinds::TABLE_HEAD => self.with_head(word),
-            kinds::NODE => self.with_node(word),
-            kinds::VALUE => self.with_value(index),
-            kinds::BLOCKED => self.with_row(index, kinds::BLOCKED),
-            kinds::SUCCESSOR => self.with_successor(index),
-            kinds::START_NODE => self.with_start(word, place),
-            kinds::CUT => self.with_cut(),
-            _ => self,
+        match words::kind_of(word) {
+            kinds::TABLE_HEAD => self.add_head(word),
+            kinds::NODE => self.add_node(word),
+            kinds::VALUE => self.add_value(rows),
+            kinds::BLOCKED => self.add_row(rows, kinds::BLOCKED),
+            kinds::SUCCESSOR => self.add_successor(rows),
+            kinds::START_NODE => self.add_start(word, place),
+            kinds::CUT => self.add_cut(),
+            _ => {}
         }
     }
 }

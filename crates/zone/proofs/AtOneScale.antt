@@ -15,7 +15,7 @@ use Rattle.zone.specs.Words.{bound_of, good_bound?}
 use Rattle.zone.specs.Squares.{universe, with_bound, tightened, empty?, Tightens}
 use Rattle.zone.specs.Reading.{cell_of}
 use Rattle.zone.specs.declared.zones.Zone.{Zone as Square}
-use Rattle.zone.specs.declared.points.Earliest.TheVariants as earliest
+use Rattle.std.specs.Prelude.{Some, None}
 use Rattle.zone.proofs.Bools.{both, and, not-untrue, not-both}
 use Rattle.zone.proofs.KeyLaws.{opposite, opposite-holds}
 use Rattle.zone.proofs.PartLaws.{number-opposite}
@@ -64,7 +64,7 @@ module _ (C : ℕ) (C₁ : 1 ≤ C) (few : C ≤ 4) {R : Region} {z : Square} (o
   answered = by (empty? (tightened z)) refl
     where
       by : (c : Bool) → empty? (tightened z) ≡ c →
-          EarliestAnswer C R (point_answer (cond c earliest.None (earliest.At (point_of (rounds_of (suc C) (tightened z) (C - 1))))))
+          EarliestAnswer C R (point_answer (cond c None (Some (point_of (rounds_of (suc C) (tightened z) (C - 1))))))
       by true e = empty-yes tight (spans o.stands) e
       by false e = found e
 

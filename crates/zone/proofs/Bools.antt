@@ -4,6 +4,7 @@ use mathlib.Core.Path.{◌≡◌, refl, sym}
 use mathlib.Core.Bool.{Bool, true, false, not, cond, ◌&&◌}
 use native.Mathlib.Omega.{arith}
 use lib.Dec.{T}
+pub use Rattle.std.proofs.Math.Bool.{not-not}
 
 pub true_false : {X : Type 0} → true ≡ false → X
 true_false e = let z : ◌≡◌ {A = ℕ} 0 1 = cc in absurd (omega arith)
@@ -15,10 +16,6 @@ false_true e = true_false (sym e)
 pub by-test : {A : Type 0} (P : A → Type 0) (c : Bool) (x y : A) → (c ≡ true → P x) → (c ≡ false → P y) → P (cond c x y)
 by-test P true x y f g = f refl
 by-test P false x y f g = g refl
-
-pub not-not : (c : Bool) → not (not c) ≡ c
-not-not true = refl
-not-not false = refl
 
 pub both : (a b : Bool) → T (a && b) → T a × T b
 both true b t = (tt, t)

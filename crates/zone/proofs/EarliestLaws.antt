@@ -11,12 +11,12 @@ use lib.Dec.{T, eqb, eqb→eq, ltb}
 use lib.ListN.{get_or, length, replicate}
 use Rattle.zone.specs.Scale.{Valuation, read, Region}
 use Rattle.zone.specs.Earliest.{EarliestPoint, valuation_of}
-use Rattle.zone.specs.Points.{least_second, round_of, rounds_of, point_of, earliest_of, is_none?}
+use Rattle.zone.specs.Points.{least_second, round_of, rounds_of, point_of, earliest_of}
 use Rattle.zone.specs.Squares.{cell, universe, with_bound, tightened, empty?, Tightens}
 use Rattle.zone.specs.declared.bounds.Bound.{Bound as Cell}
 use Rattle.zone.specs.declared.zones.Zone.{Zone as Square}
-use Rattle.zone.specs.declared.points.Earliest.{Earliest}
-use Rattle.zone.specs.declared.points.Earliest.TheVariants as earliest
+use Rattle.std.specs.Prelude.{Option, Some, None, is_none}
+use Rattle.zone.specs.declared.points.Point.{Point}
 use Rattle.zone.proofs.Integers.{lt-or-ge}
 use Rattle.zone.proofs.Limits.{Limit, none, halved, least, bounds, parts}
 use Rattle.zone.proofs.KeyLaws.{limit_of, Finite, Absent, kind}
@@ -227,10 +227,10 @@ module _ {R : Region} {z : Square} (c : ℕ) (few : suc c ≤ 4) (fits : Tighten
       holds = s.out n (omega arith) (point_at (suc c) z) (rw reads-v in_table)
 
 -- ---- a table that is not empty has a point, and no other has
-pub none-empty : (C : ℕ) (z : Square) {e : Earliest} → e ≡ earliest_of C z → is_none? e ≡ empty? z
-unfolding earliest_of is_none?
+pub none-empty : (C : ℕ) (z : Square) {e : Option Point} → e ≡ earliest_of C z → is_none e ≡ empty? z
+unfolding earliest_of
 none-empty C z f = rw f (by (empty? z))
   where
-    by : (c : Bool) → is_none? (cond c earliest.None (earliest.At (point_of (rounds_of (suc C) z (C - 1))))) ≡ c
+    by : (c : Bool) → is_none (cond c None (Some (point_of (rounds_of (suc C) z (C - 1))))) ≡ c
     by true = refl
     by false = refl

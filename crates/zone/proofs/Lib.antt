@@ -6,9 +6,10 @@ pub mod Counting
 pub mod Theory
 pub mod Limits
 pub mod KeyLaws
-pub mod KeyCode
 pub mod Loops
 pub mod WordLaws
+pub mod ReadLaws
+pub mod Results
 pub mod Sizes
 pub mod PointCode
 pub mod SquareTables
@@ -18,10 +19,7 @@ pub mod PartLaws
 pub mod EarliestLaws
 pub mod AtOneScale
 pub mod Attained
-pub mod CheckLaws
-pub mod ReadLaws
 pub mod StoreLaws
-pub mod Deciding
 pub mod Decided
 pub mod WordsAtOneScale
 pub mod OneAnswer

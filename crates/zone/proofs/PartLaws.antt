@@ -8,9 +8,9 @@ use lib.IntN.{ℤ, nat_abs, neg_ℤ}
 use Rattle.zone.specs.Scale.{Bound, holds?, Region}
 use Rattle.zone.specs.Words.{bound_of}
 use Rattle.zone.specs.Cells.{negated, size}
-use Rattle.zone.specs.Squares.{with_bound, tightened, Tightens}
+use Rattle.zone.specs.Squares.{with_bound, Tightens}
 use Rattle.zone.specs.Reading.{cell_of, with_word}
-use Rattle.zone.specs.Parts.{holding_square, rest_square, CutBy}
+use Rattle.zone.specs.Parts.{CutBy}
 use Rattle.zone.specs.declared.bounds.Bound.{Bound as Cell}
 use Rattle.zone.specs.declared.zones.Zone.{Zone as Square}
 use Rattle.zone.proofs.Integers.{abs-parts, up_neg, dn-neg}
@@ -43,20 +43,12 @@ module _ (b : Bound) where
       subst (λ (c : Cell). Tightens 3 (with_bound b.j b.i c z)) cell-opposite (tightens-with_bound (opposite b) z (number-opposite h) s)
 
 -- ---- what the code works out: a zone with the bound of a word, and with its negation
-module _ {w i j : ℕ} {b : Cell} {z : Square} (a : CutBy w z) (ei : i ≡ (bound_of w).i) (ej : j ≡ (bound_of w).j) (eb : b ≡ cell_of (bound_of w)) where
-  pub holding-fits : {y : Square} → y ≡ with_bound i j b z → Tightens 1 y
-  holding-fits e = rw (e, ei, ej, eb) (tightens-fewer 1 3 _ (omega arith) (tightens-with_bound (bound_of w) z a.number a.zone))
+pub holding_fits : {w : ℕ} {z y : Square} → CutBy w z → y ≡ with_word w z → Tightens 1 y
+unfolding with_word
+holding_fits {w} {z} a e = rw e (tightens-fewer 1 3 _ (omega arith) (tightens-with_bound (bound_of w) z a.number a.zone))
 
-  pub is-holding : {y : Square} → y ≡ with_bound i j b z → tightened y ≡ holding_square w z
-  unfolding holding_square with_word
-  is-holding e = rw (e, ei, ej, eb)
+pub cut_small : {w : ℕ} {z : Square} {b : Cell} → CutBy w z → b ≡ cell_of (bound_of w) → size b < 2 ^ 27
+cut_small {w} a e = let h = size-cell_of (bound_of w) a.number in rw e (omega arith)
 
-  pub bound-small : size b < 2 ^ 27
-  bound-small = let h = size-cell_of (bound_of w) a.number in rw eb (omega arith)
-
-  pub rest-fits : {y : Square} → y ≡ with_bound j i (negated b) z → Tightens 1 y
-  rest-fits e = rw (e, ei, ej, eb) (tightens-fewer 1 3 _ (omega arith) (tightens-rest (bound_of w) z a.number a.zone))
-
-  pub is-rest : {y : Square} → y ≡ with_bound j i (negated b) z → tightened y ≡ rest_square w z
-  unfolding rest_square
-  is-rest e = rw (e, ei, ej, eb)
+pub rest_fits : {w : ℕ} {z y : Square} → CutBy w z → y ≡ with_bound (bound_of w).j (bound_of w).i (negated (cell_of (bound_of w))) z → Tightens 1 y
+rest_fits {w} {z} a e = rw e (tightens-fewer 1 3 _ (omega arith) (tightens-rest (bound_of w) z a.number a.zone))

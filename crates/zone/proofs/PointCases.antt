@@ -9,7 +9,7 @@ use Rattle.zone.specs.Questions.{bound_checks}
 use Rattle.zone.specs.Points.{not_below_zero, least_second, raised_by, round_below, round_of, rounds_of, earliest_of}
 use Rattle.zone.specs.Cells.{tighter?, tighter_of, sum, negative?}
 use Rattle.zone.specs.Squares.{list_of, with_bound, tightened, passed_below, all?, empty?}
-use Rattle.zone.specs.Reading.{with_word, read_from, read_zone}
+use Rattle.zone.specs.Reading.{with_word, read_from, read_zone, zone_read}
 use Rattle.zone.proofs.WordsAtOneScale.{words-answered}
 use Rattle.zone.proofs.Cases.{between}
 
@@ -25,10 +25,10 @@ abbrev pub one_two : Valuation
 one_two = valuation_of (record { c1 = 1; c2 = 2; c3 = 0; c4 = 0 })
 
 points :
-    (point_answer (earliest_of 1 (tightened (read_zone 1 between).zone)) ≡ point five_halves) ×
-    (point_answer (earliest_of 2 (tightened (read_zone 2 rising).zone)) ≡ point one_two)
+    (point_answer (earliest_of 1 (tightened (zone_read 1 between))) ≡ point five_halves) ×
+    (point_answer (earliest_of 2 (tightened (zone_read 2 rising))) ≡ point one_two)
 unfolding
-    bound_of bound_fields? good_bound? tighter? tighter_of sum negative? list_of with_bound passed_below all? empty? with_word read_from read_zone
+    bound_of bound_fields? good_bound? tighter? tighter_of sum negative? list_of with_bound passed_below all? empty? with_word read_from read_zone zone_read
     not_below_zero least_second raised_by round_below round_of rounds_of earliest_of point_answer
 points = (refl, refl)
 

@@ -7,12 +7,8 @@ use mathlib.Core.List.{List}
 use native.Mathlib.Nat as N
 use native.Mathlib.Numerals.{add-one}
 use native.Mathlib.Omega.{arith}
-use lib.Dec.{T}
 use lib.IntN.{ℤ, pos, negsuc, neg_ℤ, ◌+ℤ◌, ◌-ℤ◌, ◌*ℤ◌}
 use lib.ListN.{length, get_or, replicate}
-use lib.Signed.{mag, non_neg}
-use mir.Syntax.{w32}
-use mir.Val.{Fits, SFits, to_z, of_z}
 use Rattle.zone.specs.Keys.{half, lowest}
 use Rattle.zone.specs.Cells.{size}
 use Rattle.zone.specs.Points.{not_below_zero, least_second, raised_by, round_below, round_of, rounds_of, Below}
@@ -22,36 +18,26 @@ use Rattle.zone.specs.declared.zones.Zone.{Zone as Square}
 use Rattle.zone.proofs.Integers.{up, dn, parts_add, up_neg, dn-neg, up-mul, dn-mul}
 use Rattle.zone.proofs.Limits.{halved}
 use Rattle.zone.proofs.KeyLaws.{Finite, Absent, kind}
-use Rattle.zone.proofs.Machine.{lifted, unsigned, lifted-fits, lifted-parts, lifted-cast}
 use Rattle.zone.proofs.Loops.{list_of-length, list_of-at, list_of-all, same_at}
 use Rattle.zone.proofs.Theory.Extend.{most}
 
 -- ---- 2^24 more than the key of a small bound is twice 2^23 more than the key's half, and its lowest bit
-record Field (z : ℤ) (f : ℕ) : Type 0 where
-  parts : f / 2 + dn (half z) ≡ up (half z) + 2 ^ 23
-  bit : f % 2 ≡ lowest z
-  small : f < 2 ^ 30
+pub record Field (z : ℤ) (f : ℕ) : Type 0 where
+  pub parts : f / 2 + dn (half z) ≡ up (half z) + 2 ^ 23
+  pub bit : f % 2 ≡ lowest z
+  pub small : f < 2 ^ 30
 
-module _ (a : Cell) (h : mag a.key < 2 ^ 31) (s : size a < 2 ^ 23) where
+module _ (a : Cell) (s : size a < 2 ^ 23) where
   -- it is not negative, finite or absent
-  range : (dn a.key < up a.key + 2 ^ 23) × (up a.key < dn a.key + 2 ^ 29 + 2 ^ 23)
-  range = by (kind a)
+  pub key_range : (dn a.key < up a.key + 2 ^ 23) × (up a.key < dn a.key + 2 ^ 29 + 2 ^ 23)
+  key_range = by (kind a)
     where
       by : Finite a ⊎ Absent a → (dn a.key < up a.key + 2 ^ 23) × (up a.key < dn a.key + 2 ^ 29 + 2 ^ 23)
       by (inl f) = omega (arith, f.parts)
       by (inr f) = omega (arith, f.above, f.below)
 
-  pub field_fits : SFits w32 (lifted a.key (2 ^ 24))
-  field_fits = lifted-fits a.key (2 ^ 24) h (omega (arith, range)) (omega (arith, range))
-
-  pub field-cast : T (non_neg (to_z w32 (of_z w32 (lifted a.key (2 ^ 24))))) × Fits w32 (unsigned (lifted a.key (2 ^ 24)))
-  field-cast = lifted-cast a.key (2 ^ 24) h (omega (arith, range)) (omega (arith, range))
-
-  is_field : Field a.key (unsigned (lifted a.key (2 ^ 24)))
-  is_field = by (unsigned (lifted a.key (2 ^ 24))) (lifted-parts a.key (2 ^ 24) h (omega (arith, range)) (omega (arith, range)))
-    where
-      by : (f : ℕ) → f + dn a.key ≡ up a.key + 2 ^ 24 → Field a.key f
-      by f e = omega (arith, range, halved a.key)
+  pub is_field : {f : ℕ} → f + dn a.key ≡ up a.key + 2 ^ 24 → Field a.key f
+  is_field e = omega (arith, key_range, halved a.key)
 
 -- ---- what a bound asks for
 parts-least : (x b k : ℕ) (d : ℤ) → not_below_zero (pos x +ℤ pos b -ℤ pos k *ℤ d) ≡ x + b + k * dn d - k * up d
@@ -74,7 +60,7 @@ module _ (k : ℕ) (a : Cell) (x : ℕ) where
   least-absent f = rw f.test
 
   -- by the field, as the code works it out: an absent bound's key is so large that nothing is left
-  least_by : {f : ℕ} → Field a.key f → size a < 2 ^ 23 → 1 ≤ k → x < 2 ^ 27 → least_second k a x ≡ x + k * 2 ^ 23 + (1 - f % 2) - k * (f / 2)
+  pub least_by : {f : ℕ} → Field a.key f → size a < 2 ^ 23 → 1 ≤ k → x < 2 ^ 27 → least_second k a x ≡ x + k * 2 ^ 23 + (1 - f % 2) - k * (f / 2)
   least_by {f} e s k₁ l = by (kind a)
     where
       by : Finite a ⊎ Absent a → least_second k a x ≡ x + k * 2 ^ 23 + (1 - f % 2) - k * (f / 2)
@@ -91,16 +77,6 @@ module _ (k : ℕ) (a : Cell) (x : ℕ) where
           let m : dn (half a.key) ≤ 2 ^ 22 + up (half a.key) = omega (arith, halved a.key, g.parts) in
           rw (least-finite g) (omega (arith, simp N.mul-add at (N.mul-le-mul_left k m)))
       by (inr g) = rw (least-absent g) (omega arith)
-
-module _ (a : Cell) (h : mag a.key < 2 ^ 31) (s : size a < 2 ^ 23) (k : ℕ) where
-  abbrev field : ℕ
-  field = unsigned (lifted a.key (2 ^ 24))
-
-  pub allowed-small : k ≤ 5 → k * (field / 2) ≤ 5 * 2 ^ 29
-  allowed-small k₅ = let l : field / 2 ≤ 2 ^ 29 = omega (arith, is_field a h s) in N.mul-le-mul k₅ l
-
-  pub least-is : (x : ℕ) → 1 ≤ k → x < 2 ^ 27 → least_second k a x ≡ x + k * 2 ^ 23 + (1 - field % 2) - k * (field / 2)
-  least-is x = least_by k a x (is_field a h s) s
 
 -- ---- how far a round raises the clocks
 module _ (k : ℕ) (z : Square) (i x : ℕ) (reads : List ℕ) where

@@ -1,7 +1,7 @@
 -- How large the bounds of a table grow, and how often it can be tightened. Assumes nothing.
 use Prim.Native.Nat.{ℕ, zero, suc, ◌+◌, ◌-◌, ◌*◌, ◌^◌, ◌≤◌, ◌<◌}
 use mathlib.Core.Path.{◌≡◌, refl, sym, ap, subst, ◌∙◌}
-use mathlib.Core.Bool.{Bool, true, false, not, cond, ◌&&◌, ◌||◌}
+use mathlib.Core.Bool.{Bool, true, not, cond, ◌&&◌, ◌||◌}
 use mathlib.Core.List.{List, [], ◌∷◌}
 use mathlib.Core.Logic.{◌⊎◌, inl, inr}
 use native.Mathlib.Nat.{one-mul, add-mul, mul-le-mul_right, pow-le-pow_right, two-pow-succ}
@@ -16,10 +16,12 @@ use Rattle.zone.specs.Squares.{Small, Tightens, cell, list_of, square_of, univer
 use Rattle.zone.specs.Squares.{delayed_square, source, reset_square}
 use Rattle.zone.specs.Scale.{Bound}
 use Rattle.zone.specs.Words.{bound_of, good_bound?}
-use Rattle.zone.specs.Reading.{cell_of, with_word, read_from, read_zone}
+use Rattle.zone.specs.Reading.{cell_of, with_word, read_from, read_zone, zone_read}
 use Rattle.zone.specs.declared.bounds.Bound.{Bound as Cell}
 use Rattle.zone.specs.declared.zones.Zone.{Zone as Square}
-use Rattle.zone.specs.declared.questions.ZoneRead.{ZoneRead}
+use Rattle.std.specs.Prelude.{Result, Ok, Err}
+use Rattle.std.specs.Result.{result_unwrap_or}
+use Rattle.zone.proofs.ReadLaws.{read_more}
 use Rattle.zone.proofs.Bools.{by-test}
 use Rattle.zone.proofs.Integers.{lt-or-ge}
 use Rattle.zone.proofs.KeyLaws.{size-tighter_of, size-passed, size-cell_of}
@@ -129,30 +131,26 @@ pub tightens-with_word : (C w : ℕ) → good_bound? C w ≡ true → (z : Squar
 unfolding with_word
 tightens-with_word C w good z s = tightens-with_bound (bound_of w) z (good-number C w good) s
 
-tightens-read_from : (C : ℕ) (ws : List ℕ) (p : ℕ) (z : Square) → Tightens 3 z → Tightens 3 (read_from C ws p z).zone
+tightens-read_from : (C : ℕ) (ws : List ℕ) (p : ℕ) (z : Square) → Tightens 3 z → {y : Square} → read_from C ws p z ≡ Ok y → Tightens 3 y
 unfolding read_from
-tightens-read_from C [] p z s = s
-tightens-read_from C (w ∷ ws) p z s =
-    by (good_bound? C w) (λ g. tightens-read_from C ws (suc p) (with_word w z) (tightens-with_word C w g z s))
-  where
-    by :
-        (t : Bool) → (t ≡ true → Tightens 3 (read_from C ws (suc p) (with_word w z)).zone) →
-        Tightens 3 (cond t (read_from C ws (suc p) (with_word w z)) (record { good = false; place = p; zone = z })).zone
-    by true r = r refl
-    by false r = s
+tightens-read_from C [] p z s {y} e = let f : z ≡ y = cc in rw (← f) s
+tightens-read_from C (w ∷ ws) p z s e =
+    let m = read_more C w ws p z e in
+    tightens-read_from C ws (suc p) (with_word w z) (tightens-with_word C w m.0 z s) m.1
 
--- a zone that is read can be tightened three times, whatever its words
-pub read-tightens : (C : ℕ) (ws : List ℕ) → Tightens 3 (read_zone C ws).zone
+-- what is read can be tightened three times
+pub read_fits : (C : ℕ) (ws : List ℕ) {z : Square} → read_zone C ws ≡ Ok z → Tightens 3 z
 unfolding read_zone
-read-tightens C ws = tightens-read_from C ws 0 universe tightens-universe
+read_fits C ws e = tightens-read_from C ws 0 universe tightens-universe e
 
-pub tightens-read : (C : ℕ) (ws : List ℕ) → Tightens 1 (read_zone C ws).zone
-tightens-read C ws = tightens-fewer 1 3 _ (omega arith) (read-tightens C ws)
+-- and so can the zone of words that are known to be good bounds
+pub read-tightens : (C : ℕ) (ws : List ℕ) → Tightens 3 (zone_read C ws)
+unfolding zone_read
+read-tightens C ws = by (read_zone C ws) (λ z e. read_fits C ws e)
+  where
+    by : (r : Result Square ℕ) → ((z : Square) → r ≡ Ok z → Tightens 3 z) → Tightens 3 (result_unwrap_or r universe)
+    by (Ok z) f = f z refl
+    by (Err p) f = tightens-universe
 
--- what is read can be tightened
-pub read_fits : (C : ℕ) (ws : List ℕ) (r : ZoneRead) → r ≡ read_zone C ws → Tightens 1 r.zone
-read_fits C ws r e = rw e (tightens-read C ws)
-
--- and so can what it is tightened to
-pub tightened-fits : (C : ℕ) (ws : List ℕ) (r : ZoneRead) (z : Square) → r ≡ read_zone C ws → z ≡ tightened r.zone → Tightens 1 z
-tightened-fits C ws r z e f = rw (f, e) (tightens-fewer 1 2 _ (omega arith) (tightens-less 2 (read_zone C ws).zone (omega arith) (read-tightens C ws)))
+pub tightens-read : (C : ℕ) (ws : List ℕ) {z : Square} → read_zone C ws ≡ Ok z → Tightens 1 z
+tightens-read C ws e = tightens-fewer 1 3 _ (omega arith) (read_fits C ws e)

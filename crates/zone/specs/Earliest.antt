@@ -1,9 +1,7 @@
 -- Document 02, card 6: the earliest point of a zone. Assumes nothing.
-use Rattle.std.specs.Prelude.{ℕ, zero, suc, ◌≤◌, ◌<◌, ◌≡◌, [], ◌∷◌, get_or}
+use Rattle.std.specs.Prelude.{ℕ, zero, suc, ◌≤◌, ◌<◌, ◌≡◌, [], ◌∷◌, get_or, Option, Some, None}
 use Rattle.zone.specs.Scale.{Valuation, Region, Empty}
 use Rattle.zone.specs.declared.points.Point.{Point}
-use Rattle.zone.specs.declared.points.Earliest.{Earliest}
-use Rattle.zone.specs.declared.points.Earliest.TheVariants as earliest
 
 -- the valuation of clocks 1 to C at scale C + 1 in which every clock is as small as any valuation of the region at that scale has it. Of a
 -- number that is none of these clocks it reads 0
@@ -27,7 +25,7 @@ unfoldable pub valuation_of : Point → Valuation
 valuation_of p zero = 0
 valuation_of p (suc i) = get_or (p.c1 ∷ p.c2 ∷ p.c3 ∷ p.c4 ∷ []) i 0
 
--- what each case of `Earliest` says in the document's values
-unfoldable pub point_answer : Earliest → PointAnswer
-point_answer earliest.None = no_point
-point_answer (earliest.At p) = point (valuation_of p)
+-- what the code's answer says in the document's values
+unfoldable pub point_answer : Option Point → PointAnswer
+point_answer None = no_point
+point_answer (Some p) = point (valuation_of p)

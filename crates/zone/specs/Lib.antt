@@ -4,7 +4,6 @@ pub mod Scale
 pub mod Moves
 pub mod Earliest
 pub mod Words
-pub mod Checks
 pub mod Questions
 pub mod Keys
 pub mod Cells

@@ -1,13 +1,11 @@
 -- Algorithm: the earliest point of a tightened zone, as Bellman and Ford find shortest paths. Every clock begins at its lower bound, and a round
 -- raises each clock as far as its bounds with the other clocks ask; of C clocks none is raised after C - 1 rounds. Assumes nothing.
-use Rattle.std.specs.Prelude.{ℕ, zero, suc, ◌-◌, ◌<◌, max, Bool, true, false, cond, List, ℤ, pos, negsuc, ◌+ℤ◌, ◌-ℤ◌, ◌*ℤ◌, get_or, replicate}
+use Rattle.std.specs.Prelude.{ℕ, zero, suc, ◌-◌, ◌<◌, max, cond, List, ℤ, pos, negsuc, ◌+ℤ◌, ◌-ℤ◌, ◌*ℤ◌, get_or, replicate, Option, Some, None}
 use Rattle.zone.specs.Keys.{finite?, half, lowest}
 use Rattle.zone.specs.Squares.{cell, list_of, empty?}
 use Rattle.zone.specs.declared.bounds.Bound.{Bound as Cell}
 use Rattle.zone.specs.declared.zones.Zone.{Zone as Square}
 use Rattle.zone.specs.declared.points.Point.{Point}
-use Rattle.zone.specs.declared.points.Earliest.{Earliest}
-use Rattle.zone.specs.declared.points.Earliest.TheVariants as earliest
 
 -- the number itself, or 0 if it is negative
 unfoldable pub not_below_zero : ℤ → ℕ
@@ -42,12 +40,8 @@ abbrev pub point_of : List ℕ → Point
 point_of reads = record { c1 = get_or reads 1 0; c2 = get_or reads 2 0; c3 = get_or reads 3 0; c4 = get_or reads 4 0 }
 
 -- of a tightened table over C clocks
-unfoldable pub earliest_of : ℕ → Square → Earliest
-earliest_of C z = cond (empty? z) earliest.None (earliest.At (point_of (rounds_of (suc C) z (C - 1))))
-
-unfoldable pub is_none? : Earliest → Bool
-is_none? earliest.None = true
-is_none? (earliest.At p) = false
+unfoldable pub earliest_of : ℕ → Square → Option Point
+earliest_of C z = cond (empty? z) None (Some (point_of (rounds_of (suc C) z (C - 1))))
 
 -- every clock reads less than b
 pub record Below (b : ℕ) (reads : List ℕ) : Type 0 where

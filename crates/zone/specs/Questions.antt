@@ -1,12 +1,8 @@
 -- Document 01, "The four calls and their refusals": the two questions about zones. Assumes nothing.
-use Rattle.std.specs.Prelude.{ℕ, suc, ◌↔◌, Bool, true, false, ◌&&◌, List, [], ◌∷◌, ◌++◌, T, leb}
+use Rattle.std.specs.Prelude.{ℕ, suc, ◌↔◌, Bool, ◌&&◌, List, [], ◌∷◌, ◌++◌, T, leb}
 use Rattle.zone.specs.Scale.{within, Empty, Inside}
 use Rattle.zone.specs.Words.{good_bound?, zone_of}
-use Rattle.zone.specs.Checks.{Answer, refused, accepted, Check, test, First}
-use Rattle.zone.specs.declared.questions.Emptiness.{Emptiness}
-use Rattle.zone.specs.declared.questions.Emptiness.TheVariants as emptiness
-use Rattle.zone.specs.declared.questions.Inclusion.{Inclusion}
-use Rattle.zone.specs.declared.questions.Inclusion.TheVariants as inclusion
+use Rattle.answers.specs.Checks.{Answer, Check, test, First}
 
 -- C is 1 to 4
 abbrev pub clocks? : ℕ → Bool
@@ -30,17 +26,3 @@ pub record AskedInside (C : ℕ) (first second : List ℕ) (answer : Answer Bool
   pub says :
       First (clock_check C ∷ (bound_checks 32 C 0 first ++ bound_checks 33 C 0 second))
       (λ yes?. T yes? ↔ Inside (within (zone_of first)) (within (zone_of second))) answer
-
--- what each case of an answer says in the document's numbers and values
-unfoldable pub emptiness_answer : Emptiness → Answer Bool
-emptiness_answer emptiness.Empty = accepted true
-emptiness_answer emptiness.NotEmpty = accepted false
-emptiness_answer emptiness.BadClocks = refused 31 0
-emptiness_answer (emptiness.BadBound p) = refused 32 p
-
-unfoldable pub inclusion_answer : Inclusion → Answer Bool
-inclusion_answer inclusion.Inside = accepted true
-inclusion_answer inclusion.NotInside = accepted false
-inclusion_answer inclusion.BadClocks = refused 31 0
-inclusion_answer (inclusion.BadBound p) = refused 32 p
-inclusion_answer (inclusion.BadSecondBound p) = refused 33 p

@@ -1,12 +1,12 @@
 -- Algorithm: bound words read into a square table. Assumes nothing.
-use Rattle.std.specs.Prelude.{ℕ, suc, true, false, cond, List, [], ◌∷◌}
+use Rattle.std.specs.Prelude.{ℕ, suc, cond, List, [], ◌∷◌, Result, Ok, Err}
+use Rattle.std.specs.Result.{result_unwrap_or}
 use Rattle.zone.specs.Scale.{Bound}
 use Rattle.zone.specs.Keys.{key_of}
 use Rattle.zone.specs.Words.{bound_of, good_bound?}
 use Rattle.zone.specs.Squares.{with_bound, universe}
 use Rattle.zone.specs.declared.bounds.Bound.{Bound as Cell}
 use Rattle.zone.specs.declared.zones.Zone.{Zone as Square}
-use Rattle.zone.specs.declared.questions.ZoneRead.{ZoneRead}
 
 abbrev pub cell_of : Bound → Cell
 cell_of b = record { key = key_of b.d b.strict }
@@ -14,12 +14,14 @@ cell_of b = record { key = key_of b.d b.strict }
 unfoldable pub with_word : ℕ → Square → Square
 with_word w z = with_bound (bound_of w).i (bound_of w).j (cell_of (bound_of w)) z
 
--- reads the words, the first of which has index p, into z, up to the first word that is no good bound
-unfoldable pub read_from : ℕ → List ℕ → ℕ → Square → ZoneRead
-read_from C [] p z = record { good = true; place = p; zone = z }
-read_from C (w ∷ ws) p z =
-    let rest : ZoneRead = read_from C ws (suc p) (with_word w z) in
-    cond (good_bound? C w) rest (record { good = false; place = p; zone = z })
+-- reads the words, the first of which has index p, into z, or gives the place of the first word that is no good bound
+unfoldable pub read_from : ℕ → List ℕ → ℕ → Square → Result Square ℕ
+read_from C [] p z = Ok z
+read_from C (w ∷ ws) p z = cond (good_bound? C w) (read_from C ws (suc p) (with_word w z)) (Err p)
 
-unfoldable pub read_zone : ℕ → List ℕ → ZoneRead
+unfoldable pub read_zone : ℕ → List ℕ → Result Square ℕ
 read_zone C words = read_from C words 0 universe
+
+-- the zone of words that are known to be good bounds
+unfoldable pub zone_read : ℕ → List ℕ → Square
+zone_read C words = result_unwrap_or (read_zone C words) universe

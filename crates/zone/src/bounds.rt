@@ -4,9 +4,10 @@ ghost use Rattle.std.specs.Int.Signed.{lt_z};
 ghost use Rattle.zone.specs.Keys.{PickOf, lowest};
 ghost use Rattle.zone.specs.Cells.{tighter?, tighter_of, sum, negated, negative?, size};
 
-// A bound of the difference of two clocks, at most d time units, or below d if strict: its key is 2 * d, and one more unless it is strict. Keys
-// from FINITE_BELOW up are those of absent bounds.
-#[derive(Clone, Copy)]
+/// A bound of the difference of two clocks, at most d time units, or below d if strict: its key is 2 * d, and one more unless it is strict. Keys
+/// from FINITE_BELOW up are those of absent bounds.
+// kept: no `Ord`, since document 02, card 2, has the tighter of two picked by arithmetic
+#[derive(Clone, Copy, Debug, PartialEq, Eq)]
 pub struct Bound {
     pub key: i32,
 }
@@ -39,7 +40,7 @@ impl Bound {
         (self.key < Bound::FINITE_BELOW) & self.below(other)
     }
 
-    // The one with the smaller key, the first where they are equal: it holds exactly where both hold.
+    /// The one with the smaller key, the first where they are equal: it holds exactly where both hold.
     pub fn tighter_of(self, other: Bound) -> Bound
         ensures picks { result ≡ tighter_of self other }
         ensures means { PickOf self other result }

@@ -2,13 +2,13 @@
 ghost use Rattle.std.specs.Prelude.{◌≡◌, ◌≤◌, ◌<◌, ◌-◌, ◌^◌, max, suc};
 ghost use Rattle.zone.specs.Cells.{size};
 ghost use Rattle.zone.specs.Squares.{Tightens};
-ghost use Rattle.zone.specs.Points.{least_second, raised_by, round_of, rounds_of, earliest_of, is_none?, Below};
+ghost use Rattle.zone.specs.Points.{least_second, raised_by, round_of, rounds_of, earliest_of, Below};
 
 use crate::bounds::Bound;
 use crate::zones::Zone;
 
-// What clocks 1 to 4 read.
-#[derive(Clone, Copy)]
+/// What clocks 1 to 4 read.
+#[derive(Clone, Copy, Debug, PartialEq, Eq)]
 pub struct Point {
     pub c1: u32,
     pub c2: u32,
@@ -16,25 +16,7 @@ pub struct Point {
     pub c4: u32,
 }
 
-// The earliest point of a zone; an empty one has none.
-#[derive(Clone, Copy)]
-pub enum Earliest {
-    None,
-    At(Point),
-}
-
-impl Earliest {
-    pub fn is_none(self) -> bool
-        ensures { result ≡ is_none? self }
-    {
-        match self {
-            Earliest::None => true,
-            Earliest::At(_) => false,
-        }
-    }
-}
-
-// What the five clocks read, clock 0 first.
+// What the five clocks read, clock 0 first. kept: a struct, since the prover covers no array that a call lays into a local again (tried)
 #[derive(Clone, Copy)]
 pub(crate) struct Readings {
     pub clocks: [u32; 5],
@@ -54,23 +36,18 @@ pub(crate) fn raised(bound: Bound, scale: u32, first: u32, second: u32) -> u32
     let field = (bound.key + 0x100_0000) as u32;
     let asked = first + scale * 0x80_0000 + (1 - field % 2);
     let allowed = scale * (field / 2);
-    if second + allowed < asked {
-        asked - allowed
-    } else {
-        second
-    }
+    second.max(asked.saturating_sub(allowed))
 }
 
 // Each clock raised as far as its bound with clock i asks, at a scale, where clock i reads `first`.
-pub(crate) fn raise(zone: Zone, i: usize, scale: u32, first: u32, reads: Readings) -> Readings
+pub(crate) fn raise(zone: Zone, i: usize, scale: u32, first: u32, mut reads: Readings) -> Readings
     requires { Tightens 1 zone × (i < 5) × (1 ≤ scale) × (scale ≤ 5) × (first < 2 ^ 27) × Below (2 ^ 28) reads.clocks }
     ensures { result.clocks ≡ raised_by scale zone i first reads.clocks }
 {
-    let mut out = reads;
-    for j in 0..5 {
-        out.clocks[j] = raised(zone.cells[i * 5 + j], scale, first, reads.clocks[j]);
+    for (j, read) in reads.clocks.iter_mut().enumerate() {
+        *read = raised(zone.cells[i * 5 + j], scale, first, *read);
     }
-    out
+    reads
 }
 
 // One round over n clocks, clock 0 among them, at scale n: what their bounds ask where they read so.
@@ -79,9 +56,9 @@ pub(crate) fn round(zone: Zone, n: usize, reads: Readings) -> Readings
     ensures { result.clocks ≡ round_of n zone reads.clocks }
 {
     let mut least = Readings::ZERO;
+    // kept: a range, since i is the zone's row as well
     for i in 0..n {
-        let first = reads.clocks[i];
-        least = raise(zone, i, n as u32, first, least);
+        least = raise(zone, i, n as u32, reads.clocks[i], least);
     }
     least
 }
@@ -100,20 +77,16 @@ pub(crate) fn rounds(zone: Zone, clocks: usize) -> Readings
 }
 
 impl Zone {
-    // Of a tightened zone over so many clocks, the earliest point at the scale one above.
-    pub fn earliest(self, clocks: u32) -> Earliest
+    /// Of a tightened zone over so many clocks, the earliest point at the scale one above; an empty one has none.
+    #[tactic(auto, unfolding(crate::specs::Points::earliest_of))]
+    pub fn earliest(self, clocks: u32) -> Option<Point>
         requires { Tightens 1 self × (clocks ≤ 4) }
         ensures { result ≡ earliest_of clocks self }
     {
         if self.is_empty() {
-            return Earliest::None;
+            return None;
         }
-        let reads = rounds(self, clocks as usize);
-        Earliest::At(Point {
-            c1: reads.clocks[1],
-            c2: reads.clocks[2],
-            c3: reads.clocks[3],
-            c4: reads.clocks[4],
-        })
+        let [_, c1, c2, c3, c4] = rounds(self, clocks as usize).clocks;
+        Some(Point { c1, c2, c3, c4 })
     }
 }

@@ -6,29 +6,25 @@ ghost use Rattle.zone.specs.Squares.{list_of, empty?, inside?, Tightens};
 
 use crate::bounds::Bound;
 
-// A zone as a square table of bounds, five clocks by five (a difference bound matrix): cell i * 5 + j bounds clock i minus clock j.
-// Clocks that a model does not have get no bounds of their own. `universe` has that no clock is below 0, and so has every zone that the
-// methods make from it.
-#[derive(Clone, Copy)]
+/// A zone as a square table of bounds, five clocks by five (a difference bound matrix): cell i * 5 + j bounds clock i minus clock j.
+/// Clocks that a model does not have get no bounds of their own. `universe` has that no clock is below 0, and so has every zone that the
+/// methods make from it.
+// kept: the sizes of bounds are no invariant, since each tightening lets them double: `Tightens` says how often a zone can still be tightened
+#[derive(Clone, Copy, Debug, PartialEq, Eq)]
 pub struct Zone {
     pub cells: [Bound; 25],
 }
 
-// Whether a mask names a clock; its lowest bit is clock 1.
+// Whether a mask names a clock; its lowest bit is clock 1, and clock 0 has none.
 pub(crate) fn masked(mask: u32, clock: usize) -> bool
     requires { clock < 5 }
     ensures { result ≡ masked? mask clock }
 {
-    match clock {
-        0 => false,
-        1 => mask % 2 == 1,
-        2 => mask / 2 % 2 == 1,
-        3 => mask / 4 % 2 == 1,
-        _ => mask / 8 % 2 == 1,
-    }
+    (mask << 1 >> clock) % 2 == 1
 }
 
 // The clock whose bounds a clock has after a reset.
+#[tactic(auto, unfolding(crate::specs::Squares::source))]
 pub(crate) fn source_of(mask: u32, clock: usize) -> usize
     requires { clock < 5 }
     ensures { (result ≡ source mask clock) × (result < 5) }
@@ -40,17 +36,16 @@ pub(crate) fn source_of(mask: u32, clock: usize) -> usize
 pub(crate) fn sources(mask: u32) -> [usize; 5]
     ensures { result ≡ list_of (source mask) 5 0 }
 {
-    [
-        source_of(mask, 0),
-        source_of(mask, 1),
-        source_of(mask, 2),
-        source_of(mask, 3),
-        source_of(mask, 4),
-    ]
+    let mut from = [0; 5];
+    for (clock, source) in from.iter_mut().enumerate() {
+        *source = source_of(mask, clock);
+    }
+    from
 }
 
 impl Zone {
-    // Every valuation.
+    /// Every valuation.
+    #[tactic(auto, unfolding(crate::specs::Squares::list_of))]
     pub fn universe() -> Zone
         ensures { result ≡ universe }
     {
@@ -68,63 +63,60 @@ impl Zone {
         }
     }
 
-    // The valuations of both.
-    pub fn meet(self, other: Zone) -> Zone
+    /// The valuations of both.
+    pub fn meet(mut self, other: Zone) -> Zone
         ensures { result ≡ met self other }
     {
-        let mut out = self;
-        for p in 0..25 {
-            let old = self.cells[p];
-            out.cells[p] = old.tighter_of(other.cells[p]);
+        for (p, bound) in self.cells.iter_mut().enumerate() {
+            *bound = bound.tighter_of(other.cells[p]);
         }
-        out
+        self
     }
 
     // The valuations where a bound of clock i minus clock j holds as well.
-    pub(crate) fn with_bound(self, i: usize, j: usize, bound: Bound) -> Zone
+    #[tactic(auto, unfolding(crate::specs::Squares::with_bound))]
+    pub(crate) fn with_bound(mut self, i: usize, j: usize, bound: Bound) -> Zone
         requires { (i < 5) × (j < 5) }
         ensures { result ≡ with_bound i j bound self }
     {
         let p = i * 5 + j;
-        let old = self.cells[p];
-        let mut out = self;
-        out.cells[p] = old.tighter_of(bound);
-        out
+        self.cells[p] = self.cells[p].tighter_of(bound);
+        self
     }
 
-    // The same valuations, every bound as tight as any chain of bounds makes it: by the algorithm of Floyd and Warshall, a pass for each
-    // clock m. A pass reads the old table: in place it would equal the algorithm only while no diagonal is negative.
-    pub fn tighten(self) -> Zone
+    /// The same valuations, every bound as tight as any chain of bounds makes it: by the algorithm of Floyd and Warshall, a pass for each
+    /// clock m. A pass reads the old table: in place it would equal the algorithm only while no diagonal is negative.
+    pub fn tighten(mut self) -> Zone
         requires { Tightens 1 self }
         ensures { result ≡ tightened self }
     {
-        let mut out = self;
+        // kept: ranges here and in `reset`, since m, i and j name cells by row and column
         for m in 0..5 {
-            let old = out;
+            let old = self;
             for i in 0..5 {
                 let into = old.cells[i * 5 + m];
                 for j in 0..5 {
                     let direct = old.cells[i * 5 + j];
                     let through = into.sum(old.cells[m * 5 + j]);
-                    out.cells[i * 5 + j] = direct.tighter_of(through);
+                    self.cells[i * 5 + j] = direct.tighter_of(through);
                 }
             }
         }
-        out
+        self
     }
 
-    // Of a tightened zone, what any delay attains: the upper bounds are dropped.
-    pub fn delay(self) -> Zone
+    /// Of a tightened zone, what any delay attains: the upper bounds are dropped.
+    pub fn delay(mut self) -> Zone
         ensures { result ≡ delayed_square self }
     {
-        let mut out = self;
+        // kept: a range, since every fifth bound is meant
         for i in 1..5 {
-            out.cells[i * 5] = Bound::UNBOUNDED;
+            self.cells[i * 5] = Bound::UNBOUNDED;
         }
-        out
+        self
     }
 
-    // Of a tightened zone, the masked clocks set to 0: each has the bounds of clock 0.
+    /// Of a tightened zone, the masked clocks set to 0: each has the bounds of clock 0.
     pub fn reset(self, mask: u32) -> Zone
         ensures { result ≡ reset_square mask self }
     {
@@ -139,26 +131,26 @@ impl Zone {
         out
     }
 
-    // Of a tightened zone: it has no valuation at any scale.
+    /// Of a tightened zone: it has no valuation at any scale.
     pub fn is_empty(self) -> bool
         ensures { result ≡ empty? self }
     {
         let mut empty = false;
+        // kept: no `any`; with it, and `all` in `inside`, full tables took a fifth more instructions
         for i in 0..5 {
-            let own = self.cells[i * 6];
-            empty = empty | own.negative();
+            empty |= self.cells[i * 6].negative();
         }
         empty
     }
 
-    // Of a tightened zone that is not empty: it lies inside the other. Of any other zone a yes is right, and a no tells nothing.
+    /// Of a tightened zone that is not empty: it lies inside the other. Of any other zone a yes is right, and a no tells nothing.
     pub fn inside(self, other: Zone) -> bool
         ensures { result ≡ inside? self other }
     {
         let mut passes = true;
-        for p in 0..25 {
-            let outer = other.cells[p];
-            passes = passes & !outer.tighter(self.cells[p]);
+        // kept: no `all`; with it, and `any` in `is_empty`, full tables took a fifth more instructions
+        for (inner, outer) in self.cells.iter().zip(&other.cells) {
+            passes &= !outer.tighter(*inner);
         }
         passes
     }

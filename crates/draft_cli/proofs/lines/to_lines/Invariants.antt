@@ -1,11 +1,7 @@
--- After k turns the text begins with the lines of the first k words.
-use Rattle.std.proofs.Common.{◌≡◌, ◌≤◌, ◌*◌, length, take}
-use Rattle.draft_cli.specs.Text.{lines_of}
+-- After k turns the first k cells are the lines of the first k words.
+use Rattle.std.proofs.Common.{◌≡◌, map, take}
+use Rattle.draft_cli.specs.Text.{word_line}
 use Rattle.draft_cli.proofs.lines.to_lines.Given as goal
 
 abbrev pub invariant-loop-k : goal.invariant-loop-k
-invariant-loop-k l = record {
-  few : l.k ≤ l.count;
-  same_length : length l.text ≡ length l.initial.text;
-  lines : take (l.k * 9) l.text ≡ lines_of (take l.k l.words);
-}
+invariant-loop-k l = take l.k l.lines ≡ map word_line (take l.k l.words)

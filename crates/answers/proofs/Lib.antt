@@ -1,0 +1,3 @@
+-- The laws of answers.
+pub mod CheckLaws
+pub mod RefusalLaws

@@ -1,0 +1,35 @@
+// Bound words read into a zone.
+ghost use Rattle.std.specs.Prelude.{◌≡◌, ◌≤◌, ◌<◌};
+ghost use Rattle.zone.specs.Words.{bound_of};
+ghost use Rattle.zone.specs.Reading.{with_word, read_zone};
+
+use crate::words;
+use crate::zones::Zone;
+
+impl Zone {
+    /// Picks the tighter of a bound word's bound and the one at its cell, in place.
+    #[tactic(auto, unfolding(crate::specs::Reading::with_word, crate::specs::Squares::with_bound))]
+    pub fn add_bound(&mut self, word: u32)
+        requires { ((bound_of word).i < 5) × ((bound_of word).j < 5) }
+        ensures { self.new ≡ with_word word self.old }
+    {
+        let p = words::cell_of(word);
+        self.cells[p] = self.cells[p].tighter_of(words::bound_of(word));
+    }
+}
+
+// kept: C is a plain number, since the calls take it from C as one; so its range stands in a requires, here and in `Zone::earliest`
+/// The zone of a list of bound words, or the place of the first word that is no good bound.
+pub fn read_zone(clocks: u32, list: &[u32]) -> Result<Zone, usize>
+    requires { clocks ≤ 4 }
+    ensures { result ≡ read_zone clocks list.now }
+{
+    let mut zone = Zone::universe();
+    for (at, &word) in list.iter().enumerate() {
+        if !words::good_bound(clocks, word) {
+            return Err(at);
+        }
+        zone.add_bound(word);
+    }
+    Ok(zone)
+}
