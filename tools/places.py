@@ -47,7 +47,8 @@ KINDS = {
     "8a": "function proofs in the form of Proof.antt",
     "8b": "lemmas that no other file and no other line names",
 }
-# Twins that have two names: each name must still be defined for the group to count. `crate:Owner::name` or `crate:name`.
+# Twins known by reading, with what they were called when the pass began and what they are called now: a group counts where two of its names are defined.
+# `crate:Owner::name` or `crate:name`.
 TWINS = [
     ("judge:words_refused", "judge:node_refused", "draft:stopped", "model:fault_answer", "table:answer_of"),
     ("model:ModelAnswer", "table:TableAnswer", "judge:Verdict", "draft:DraftAnswer"),
@@ -56,19 +57,38 @@ TWINS = [
     ("zone:Emptiness", "zone:Inclusion"),
     ("zone:zone_empty", "zone:zone_inside"),
     ("zone:Zone::holding_part", "zone:Zone::rest_part"),
-    ("zone:add_bound", "zone:Zone::with_bound"),
+    ("zone:add_bound", "zone:Zone::add_bound", "zone:Zone::with_bound"),
     ("zone:Zone::load", "table:NodeEntry::load"),
     ("zone:Zone::put", "table:NodeEntry::put", "draft:put_node"),
     ("model:first_missing", "table:numbers_answer"),
-    ("model:Seen::with_location", "model:Seen::with_action"),
-    ("table:rows_at", "table:size_at"),
+    ("model:missing_of", "table:missing_of"),
+    ("model:Seen::with_location", "model:Seen::with_action", "model:Seen::add_location", "model:Seen::add_action", "model:Seen::add_start"),
+    ("table:rows_at", "table:size_at", "table:Rows::of", "table:Rows::size"),
+    ("model:Reader::good_bound", "table:Reader::good_bound"),
     ("miss_chance:of_model", "miss_chance:of_emptiness", "miss_chance:of_inclusion"),
     ("miss_chance:of_verdict", "miss_chance:of_draft"),
     ("judge_line:line_of", "draft_cli:drafted"),
 ]
 # What has a point's shape and is no place. (kind, name) -> why
 APART = {
+    ("1a", "Kind"): "the kinds of a model's words; `None` stands before the first word, and for a word of no such kind",
+    ("1a", "TableKind"): "the kinds of a table's words; `None` as in `Kind`",
     ("1b", "Seen"): "`target` is a fact about the last node, and says nothing of the other fields",
+    ("1f", "admitted"): "another refusal than the one that came",
+    ("2a", "number"): "the number of a reason, and of a kind of words",
+    ("2a", "of"): "the kind of a word, the rows of a location, the value of a code, the clocks of a number",
+    ("2a", "size"): "how many words a node has, and how many successors a row",
+    ("2a", "rows"): "one explores the rows of a node, the other judges them",
+    ("2a", "add_row"): "one adds the bounds of a row of cells, the other a row of a node to what was seen",
+    ("2a", "edges_of"): "the numbers of an action's edges, and their words",
+    ("2a", "Node"): "one is found, with its rows' codes; the other was read, with its value and its zone",
+    ("2a", "drafted"): "the draft of a model that was read, and that of an input's bytes",
+    ("2a", "EMPTY"): "each struct's own empty value",
+    ("2a", "Reader"): "the two instances of `Pass`, each with the checks of its file",
+    ("2a", "good_bound"): "a bound word by itself, and behind the words of each file; the readers' two are twins of 2c",
+    ("2a", "missing_of"): "a pair of 2c",
+    ("2a", "add_head"): "other fields",
+    ("2a", "add_start"): "other fields",
     ("2a", "at"): "a reason at a place, and the parts of a scan",
     ("2a", "start"): "one makes an empty struct of slots, the other places a node",
     ("2a", "successor"): "one judges an edge against a node that is there, the other makes the node",
@@ -91,6 +111,8 @@ APART = {
     ("3d", "Zone::earliest"): "a struct with four named fields",
     ("4c", "Zone::reset"): "each cell comes from another place",
     ("5b", "(at, codes)"): "places in a buffer, each function's own",
+    ("6b", "first_missing"): "how many there are of what the words name, and no length of the list",
+    ("6c", "IndexedModel"): "edges and zones have numbers of their own",
     ("6c", "answer"): "the input, the words and the text: none is read beside another",
     ("6d", "to_lines"): "the layout of the text, nine bytes to a line; under 3a and 4e",
     ("6d", "to_words"): "the layout of the file, four bytes to a word; under 3a and 4e",
@@ -261,7 +283,8 @@ for t in types:
     cases = {c for c, _ in t.cases}
     with_place = sum(1 for _, p in t.cases if p == "(usize)")
     if cases & ABSENT or (cases & GIVES and len(cases) > 1) or with_place >= 2:
-        answers.add(t.name)
+        if ("1a", t.name) not in APART:
+            answers.add(t.name)
         payload = [c for c, p in t.cases if p]
         shape = "Option" if len(t.cases) == 2 and len(payload) == 1 else "Option of an error" if cases & (ABSENT | {"Good"}) else "Result"
         place("1a", t.path, t.line, t.name, f"the shape of {shape}: " + ", ".join(c for c, _ in t.cases[:4]) + (", .." if len(t.cases) > 4 else ""))

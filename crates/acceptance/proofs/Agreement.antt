@@ -11,7 +11,8 @@ use lib.ListN.{get_or, length, drop}
 use Rattle.answers.specs.Checks.{Check, check}
 use Rattle.answers.proofs.CheckLaws.{AllHold, all_left, all_right, all_join}
 use Rattle.zone.specs.Scale.{Region}
-use Rattle.model.specs.TableKinds.{blocked, cut, is_table}
+use Rattle.model.specs.declared.table_kinds.TableKind.TheVariants.{Blocked as blocked, Cut as cut}
+use Rattle.model.specs.TableKinds.{is_table}
 use Rattle.model.specs.Model.{Edge, Action, Location, Model}
 use Rattle.model.specs.States.{location_at}
 use Rattle.model.proofs.ZoneLaws.{All, more}

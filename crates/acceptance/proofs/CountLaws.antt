@@ -63,7 +63,7 @@ pub certified-most : (M : Model) (W : Table) → Accepted M W → certified W �
 unfolding certified
 certified-most M W ok = (ok.nodes W.start ok.start.exists).value
 
--- ---- no steps: a target counts 1, another state 0
+-- ---- no steps: a target counts 1, another state 0. Both are for who reads the definition, and no other line uses them
 
 pub count-zero-target : (M : Model) (k : ℕ) (σ : Scheduler) (before : List State) (s : State) →
     (location_at M s.location).target ≡ true → weighted_count M k σ 0 before s ≡ 1
@@ -96,6 +96,7 @@ other_timeline = set (set timeline 7 0x20000001) 8 0x20000000
 abbrev pub attains : List ℕ → ℕ → ℕ → ℕ
 attains words t n = weighted_count (model_of words) 3 (waits t) n [] initial
 
+-- it is a start state, so demand 3 bounds these counts: for the reader, as `start-starts` below; no other line uses them
 pub initial-starts : IsStart (model_of timeline) 3 initial
 unfolding among kind_of bound_of parts_with parts_of model_of location_at read holds? in? within
 initial-starts = record { location = refl; state = record { exists = lit≤ tt; invariant = tt }; bounds = tt }
@@ -186,6 +187,7 @@ begins? (t ∷ ts) (s ∷ ss) = same? s t && begins? ts ss
 abbrev pub started? : List State → Bool
 started? history = same? (get_or history 0 (state_at 9 9 9)) (state_at 0 0 0)
 
+-- the state that all this is counted from is a start state, so demand 3 bounds these counts too
 pub start-starts : IsStart (model_of returning) 2 (state_at 0 0 0)
 unfolding among kind_of bound_of parts_with parts_of model_of location_at read holds? in? within
 start-starts = record { location = refl; state = record { exists = lit≤ tt; invariant = tt }; bounds = tt }

@@ -14,11 +14,9 @@ use Rattle.model.specs.Kinds.{among, kind_of}
 use Rattle.model.specs.TableKinds.{table_kind_of}
 use Rattle.model.specs.Before.{opener_from, count_of, index_of}
 use Rattle.model.specs.Grammar.{follows, table_follows, numbered?, may_follow?, follows?, table_follows?}
-use Rattle.model.specs.Fields.{fields?}
 use Rattle.model.specs.Model.{Model, parts_with, parts_of, model_of}
 use Rattle.model.specs.States.{location_at, HasStart}
-use Rattle.model.specs.Reading.{limit?, adds?, word_checks, words_checks, edge_checks, model_checks}
-use Rattle.table.specs.Fields as fields
+use Rattle.model.specs.Reading.{word_checks, words_checks, edge_checks, model_checks}
 use Rattle.table.specs.Fields.{whole_of, value_of}
 use Rattle.table.specs.Table.{rows_body, Table, node_at, rows_of, leading_bounds, row_actions, body_of, node_of, nodes_of, table_of}
 use Rattle.table.specs.Reading as reading
@@ -91,7 +89,7 @@ starts = record {
 -- ---- the checks of the three parts
 
 model-holds : AllHold (model_checks alone_model)
-unfolding among kind_of opener_from count_of follows numbered? may_follow? follows? fields? limit? adds? word_checks words_checks edge_checks model_checks
+unfolding among kind_of opener_from count_of follows numbered? may_follow? follows? word_checks words_checks edge_checks model_checks
 model-holds = rw model_is (tt, (tt, (tt, (tt, (tt, (tt, (tt, (tt, (tt, (tt, (tt, (tt, (tt, (tt, (tt, (tt, (starts, tt)))))))))))))))))
 
 table-holds : (b whole : ℕ) → AllHold (table_checks M (W b whole))
@@ -110,8 +108,8 @@ module _ (b whole head value : ℕ) (head-fields : (kind head ≡ 7) × (whole_o
 
   read-holds : 1 ≤ whole → b ≤ whole → AllHold (read_checks M words)
   unfolding
-      among table_kind_of opener_from count_of table_follows numbered? may_follow? table_follows? fields.fields? location_at row_actions last_location edge_counts
-      all_due due_with due rows_allow? reading.limit? reading.word_checks reading.words_checks number_checks read_checks
+      among table_kind_of opener_from count_of table_follows numbered? may_follow? table_follows? location_at row_actions last_location edge_counts
+      all_due due_with due rows_allow? reading.word_checks reading.words_checks number_checks read_checks
   read-holds some fits =
       let head-good = le→leb 1 whole some in
       let value-good = le→leb b whole fits in

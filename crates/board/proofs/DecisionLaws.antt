@@ -34,20 +34,20 @@ use Rattle.board.specs.Deciding.{read_slots, good_lent?, lent_in_range?, lent_ch
 use Rattle.board.proofs.Tests.{first_of, second-of, some-fails, all_hold}
 
 -- what was read is in range where what was lent is
-pub as_good : (ss : List Slot) (lent : Option (List Slot)) → Loads ss lent → good_lent? lent ≡ good_slots? ss
+pub as_good : (ss : List Slot) (lent : Result (List Slot) ℕ) → Loads ss lent → good_lent? lent ≡ good_slots? ss
 as_good ss lent h = ap good_lent? h ∙ gate (eqb (length ss) 16)
   where
-    gate : (b : Bool) → good_lent? (cond b (Some ss) None) ≡ (b && all_good? ss)
+    gate : (b : Bool) → good_lent? (cond b (Ok ss) (Err (length ss))) ≡ (b && all_good? ss)
     gate true = refl
     gate false = refl
 
 -- and then it is the same
-pub as_read : (ss : List Slot) (lent : Option (List Slot)) → Loads ss lent → T (good_lent? lent) → read_slots lent ≡ ss
+pub as_read : (ss : List Slot) (lent : Result (List Slot) ℕ) → Loads ss lent → T (good_lent? lent) → read_slots lent ≡ ss
 as_read ss lent h t = by (eqb (length ss) 16) h
   where
-    by : (b : Bool) → lent ≡ cond b (Some ss) None → read_slots lent ≡ ss
+    by : (b : Bool) → lent ≡ cond b (Ok ss) (Err (length ss)) → read_slots lent ≡ ss
     by true e = ap read_slots e
-    by false e = absurd (subst (λ (o : Option (List Slot)). T (good_lent? o)) e t)
+    by false e = absurd (subst (λ (o : Result (List Slot) ℕ). T (good_lent? o)) e t)
 
 -- a refusal with place 0
 pub refuses : {A : Type 0} (r : Refusal) (reason : Reason) → r.reason ≡ reason → r.place ≡ 0 →
@@ -56,36 +56,38 @@ unfolding answer_of
 refuses r reason e p = rw (e, p) refl
 
 -- what is left, or 54 to 56
-abbrev pub Admits : Ledger → Request → Answer Ledger → Option (List Slot) → Type 0
-Admits l q answer lent = First (lent_checks lent l q) (λ left. left ≡ spend l) answer
+abbrev pub Admits : Ledger → Request → Result (List Slot) ℕ → Answer Ledger → Type 0
+Admits l q lent answer = First (lent_checks lent l q) (λ left. left ≡ spend l) answer
 
-module _ (l : Ledger) (q : Request) where
-  module _ (r : Refusal) (place : r.place ≡ 0) where
-    pub refuses-read : r.reason ≡ BoardOutOfRange → Admits l q (answer_of (Err r)) None
+module _ (l : Ledger) (q : Request) (lent : Result (List Slot) ℕ) where
+  pub refuses_read : (r : Refusal) (n : ℕ) → lent ≡ Err n → r.reason ≡ BoardOutOfRange → r.place ≡ 0 → Admits l q lent (answer_of (Err r))
+  unfolding number
+  refuses_read r n is e p = rw is (inr ((λ t. t), refuses r BoardOutOfRange e p))
+
+  module _ (slots : List Slot) (is : lent ≡ Ok slots) where
+    pub refuses_range : (r : Refusal) → r.reason ≡ BoardOutOfRange → r.place ≡ 0 → false ≡ lent_in_range? (Ok slots) l q →
+        Admits l q lent (answer_of (Err r))
     unfolding number
-    refuses-read e = inr ((λ t. t), refuses r BoardOutOfRange e place)
+    refuses_range r e p h = rw is (inr ((λ t. subst T (sym h) t), refuses r BoardOutOfRange e p))
 
-    module _ (slots : List Slot) where
-      pub refuses-range : r.reason ≡ BoardOutOfRange → false ≡ lent_in_range? (Some slots) l q → Admits l q (answer_of (Err r)) (Some slots)
-      unfolding number
-      refuses-range e h = inr ((λ t. subst T (sym h) t), refuses r BoardOutOfRange e place)
+    pub refuses_spent : (r : Refusal) → r.reason ≡ AllowanceSpent → r.place ≡ 0 → true ≡ lent_in_range? (Ok slots) l q → l.allowance ≡ 0 →
+        Admits l q lent (answer_of (Err r))
+    unfolding number
+    refuses_spent r e p t z =
+        rw is (inl (subst T t tt, inr ((λ u. let m : 0 < l.allowance = ltb→lt 0 l.allowance u in omega (arith, z)), refuses r AllowanceSpent e p)))
 
-      pub refuses-spent : r.reason ≡ AllowanceSpent → true ≡ lent_in_range? (Some slots) l q → l.allowance ≡ 0 →
-          Admits l q (answer_of (Err r)) (Some slots)
-      unfolding number
-      refuses-spent e t z =
-          inl (subst T t tt, inr ((λ u. let m : 0 < l.allowance = ltb→lt 0 l.allowance u in omega (arith, z)), refuses r AllowanceSpent e place))
+    pub refuses_held : (r : Refusal) → r.reason ≡ SlotHeldByOther → r.place ≡ 0 → true ≡ lent_in_range? (Ok slots) l q → 0 < l.allowance →
+        false ≡ may_write? q.team (slot_at slots q.slot) → Admits l q lent (answer_of (Err r))
+    unfolding number
+    refuses_held r e p t u w =
+        rw is (inl (subst T t tt, inl (lt→ltb 0 l.allowance u, inr ((λ m. subst T (sym w) m), refuses r SlotHeldByOther e p))))
 
-      pub refuses-held : r.reason ≡ SlotHeldByOther → true ≡ lent_in_range? (Some slots) l q → 0 < l.allowance →
-          false ≡ may_write? q.team (slot_at slots q.slot) → Admits l q (answer_of (Err r)) (Some slots)
-      unfolding number
-      refuses-held e t u w =
-          inl (subst T t tt, inl (lt→ltb 0 l.allowance u, inr ((λ m. subst T (sym w) m), refuses r SlotHeldByOther e place)))
+    pub admits_all : true ≡ lent_in_range? (Ok slots) l q → 0 < l.allowance → true ≡ may_write? q.team (slot_at slots q.slot) →
+        Admits l q lent (answer_of (Ok (spend l)))
+    unfolding answer_of
+    admits_all t u w = rw is (inl (subst T t tt, inl (lt→ltb 0 l.allowance u, inl (subst T w tt, refl))))
 
-  pub admits-all : (slots : List Slot) → true ≡ lent_in_range? (Some slots) l q → 0 < l.allowance → true ≡ may_write? q.team (slot_at slots q.slot) →
-      Admits l q (answer_of (Ok (spend l))) (Some slots)
-  unfolding answer_of
-  admits-all slots t u w = inl (subst T t tt, inl (lt→ltb 0 l.allowance u, inl (subst T w tt, refl)))
+pub ruleset admitting = (refuses_read, refuses_range, refuses_spent, refuses_held, admits_all)
 
 -- the number 0 says that it is an acceptance
 accepting : (a : Result Certificate Refusal) → (reply_of (answer_of a)).number ≡ 0 → Accepting (answer_of a)
@@ -93,7 +95,7 @@ unfolding reply_of answer_of
 accepting (Ok c) e = tt
 accepting (Err r) e = true_false (sym (ap (λ n. eqb n 0) e) ∙ not-zero r.reason)
 
-module _ (lent : Option (List Slot)) (l : Ledger) (q : Request) (model table : List ℕ) where
+module _ (lent : Result (List Slot) ℕ) (l : Ledger) (q : Request) (model table : List ℕ) where
   abbrev s : Submission
   s = submission q model table
 
@@ -178,7 +180,7 @@ unfolding written
 wrote ss w leaves h = ap (placed ss) h
 wrote ss w (puts n x) h = ap (placed ss) h
 
-pub submits : (l : Ledger) (s : Submission) (ss after : List Slot) (lent : Option (List Slot)) (d : Decision) → Loads ss lent → Decides lent l s d →
+pub submits : (l : Ledger) (s : Submission) (ss after : List Slot) (lent : Result (List Slot) ℕ) (d : Decision) → Loads ss lent → Decides lent l s d →
     after ≡ placed ss d.write → Submits (board ss l) s d.submitted after
 submits l s ss after lent d h k e = record {
   said = k.said;

@@ -14,7 +14,8 @@ use Rattle.slots.specs.Slots.{slot_at}
 use Rattle.board.specs.Board.{could_give?, good_slot?, every?, all_good?}
 use Rattle.board.specs.Ranking.{ahead?, held?}
 use Rattle.zone.proofs.Bools.{and}
-use Rattle.board.proofs.Tests.{dec, never, first_of, second-of, one_of, or_left, or_right}
+use Rattle.std.proofs.Math.Facts.{T_not}
+use Rattle.board.proofs.Tests.{dec, first_of, second-of, one_of, or_left, or_right}
 
 -- ---- fractions
 
@@ -91,7 +92,7 @@ module _ (ss : List Slot) (positive : (n : ℕ) → T (held? ss n) → 0 < (slot
 pub ahead-either : (ss : List Slot) (m n : ℕ) → (m ≡ n → ⊥) → T (not (ahead? ss m n)) → T (ahead? ss n m)
 ahead-either ss m n d h =
     write ((slot_at ss n).b * (slot_at ss m).whole) ((slot_at ss m).b * (slot_at ss n).whole) n m
-    (either ((slot_at ss m).b * (slot_at ss n).whole) ((slot_at ss n).b * (slot_at ss m).whole) m n d (λ s. never (ahead? ss m n)
+    (either ((slot_at ss m).b * (slot_at ss n).whole) ((slot_at ss n).b * (slot_at ss m).whole) m n d (λ s. T_not (ahead? ss m n)
     (write ((slot_at ss m).b * (slot_at ss n).whole) ((slot_at ss n).b * (slot_at ss m).whole) m n s) h))
 
 pub ahead-self : (ss : List Slot) (m : ℕ) → T (ahead? ss m m) → ⊥
@@ -105,7 +106,7 @@ positive_of [] g n h = absurd h
 positive_of (s ∷ ss) g zero h =
     leb→le 1 s.whole (first_of (leb 1 s.whole) (leb s.whole 268435455 && leb s.b s.whole)
     (second-of (leb s.team 7) (could_give? s.b s.whole)
-    (⊎_elim (λ t. absurd (never s.held h t)) (λ t. t) (one_of (not s.held) (leb s.team 7 && could_give? s.b s.whole)
+    (⊎_elim (λ t. absurd (T_not s.held h t)) (λ t. t) (one_of (not s.held) (leb s.team 7 && could_give? s.b s.whole)
     (first_of (good_slot? s) (all_good? ss) g)))))
 positive_of (s ∷ ss) g (suc n) h = positive_of ss (second-of (good_slot? s) (all_good? ss) g) n h
 

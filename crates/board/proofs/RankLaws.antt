@@ -16,7 +16,8 @@ use Rattle.board.specs.declared.ranking.Ranking.{Ranking}
 use Rattle.board.specs.Ranking.{ahead?, held?, InRank}
 use Rattle.board.specs.Replies.{ranking_of}
 use Rattle.board.specs.Ordering.{before?, IsFirst, FirstHeld, Orders}
-use Rattle.board.proofs.Tests.{dec, never}
+use Rattle.std.proofs.Math.Facts.{T_not}
+use Rattle.board.proofs.Tests.{dec}
 use Rattle.board.proofs.OrderLaws.{held-there}
 use Rattle.board.proofs.PickLaws.{below}
 
@@ -39,7 +40,7 @@ tally-most ss (suc n) = by (held? ss n) (tally-most ss n)
 tally-some : (ss : List Slot) (m n : ℕ) → m < n → T (held? ss m) → 0 < tally ss n
 unfolding tally
 tally-some ss m zero l h = absurd (omega arith)
-tally-some ss m (suc n) l h = by (held? ss n) (λ t. below m n (omega arith) (λ e. absurd (never (held? ss n) (subst (λ (k : ℕ). T (held? ss k)) e h) t))
+tally-some ss m (suc n) l h = by (held? ss n) (λ t. below m n (omega arith) (λ e. absurd (T_not (held? ss n) (subst (λ (k : ℕ). T (held? ss k)) e h) t))
     (λ l'. tally-some ss m n l' h))
   where
     by : (b : Bool) → (T (not b) → 0 < tally ss n) → 0 < cond b (suc (tally ss n)) (tally ss n)
@@ -194,7 +195,7 @@ module _ (ss : List Slot) where
         by : (n : ℕ) → T (held? left n) → ((i : ℕ) × ((i < count + 1) × (get_or order' i 0 ≡ n))) ⊎ T (held? left' n)
         by n t =
             ⊎_elim (λ q. inl (count, (omega arith, here ∙ sym (eqb→eq n at q))))
-            (λ q. inr (subst (λ (x : Slot). T x.held) (sym (kept n (λ e. never (eqb n at) (subst (λ (k : ℕ). T (eqb n k)) e (eqb_refl n)) q))) t))
+            (λ q. inr (subst (λ (x : Slot). T x.held) (sym (kept n (λ e. T_not (eqb n at) (subst (λ (k : ℕ). T (eqb n k)) e (eqb_refl n)) q))) t))
             (dec (eqb n at))
 
   -- none is left

@@ -9,10 +9,6 @@ pub dec : (b : Bool) → T b ⊎ T (not b)
 dec true = inl tt
 dec false = inr tt
 
-pub never : (b : Bool) → T b → T (not b) → ⊥
-never true t f = f
-never false t f = t
-
 -- of two tests
 pub first_of : (a b : Bool) → T (a && b) → T a
 first_of a b h = (both a b h).0

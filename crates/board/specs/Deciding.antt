@@ -1,5 +1,5 @@
 -- Algorithm: what a submission comes to, decided by value. Assumes nothing.
-use Rattle.std.specs.Prelude.{◌≡◌, Bool, false, ◌&&◌, List, [], ◌∷◌, ltb, leb, Option, None, Some}
+use Rattle.std.specs.Prelude.{ℕ, ◌≡◌, Bool, false, ◌&&◌, List, [], ◌∷◌, ltb, leb, Option, None, Some, Result, Ok, Err}
 use Rattle.answers.specs.Checks.{Answer, Check, test}
 use Rattle.acceptance.specs.declared.certificate.Certificate.{Certificate}
 use Rattle.acceptance.specs.Judging.{BoundsSchedulers}
@@ -15,21 +15,21 @@ use Rattle.board.specs.Submissions.{Submission, submitted, Says, Put, leaves, pu
 use Rattle.board.specs.Replies.{submission, reply_of, Accepting}
 
 -- the slots that were read, where there are any
-abbrev pub read_slots : Option (List Slot) → List Slot
-read_slots None = []
-read_slots (Some ss) = ss
+abbrev pub read_slots : Result (List Slot) ℕ → List Slot
+read_slots (Err n) = []
+read_slots (Ok ss) = ss
 
 -- they are in range
-abbrev pub good_lent? : Option (List Slot) → Bool
-good_lent? None = false
-good_lent? (Some ss) = all_good? ss
+abbrev pub good_lent? : Result (List Slot) ℕ → Bool
+good_lent? (Err n) = false
+good_lent? (Ok ss) = all_good? ss
 
 -- the test of 54
-abbrev pub lent_in_range? : Option (List Slot) → Ledger → Request → Bool
+abbrev pub lent_in_range? : Result (List Slot) ℕ → Ledger → Request → Bool
 lent_in_range? lent l q = good_lent? lent && (good_ledger? l && (leb q.team 7 && ltb q.slot 16))
 
 -- 54 to 56
-abbrev pub lent_checks : Option (List Slot) → Ledger → Request → List Check
+abbrev pub lent_checks : Result (List Slot) ℕ → Ledger → Request → List Check
 lent_checks lent l q =
     test 54 0 (lent_in_range? lent l q) ∷
     test 55 0 (ltb 0 l.allowance) ∷
@@ -51,7 +51,7 @@ pub record ComesTo (q : Request) (answer : Answer Certificate) (l : Ledger) (r :
   pub writes : Writes (put_for q answer) r.write
 
 -- what a submission comes to at every board whose slots were read
-pub record Decides (lent : Option (List Slot)) (l : Ledger) (s : Submission) (r : Decision) : Type 0 where
+pub record Decides (lent : Result (List Slot) ℕ) (l : Ledger) (s : Submission) (r : Decision) : Type 0 where
   pub said : Answer Certificate
   pub replies : r.submitted.answer ≡ reply_of said
   pub accepts : r.submitted.answer.number ≡ 0 → Accepting said

@@ -1,5 +1,5 @@
 -- Algorithm: how the rank is found: the first held slot, then each time the first of those that are left. Assumes nothing.
-use Rattle.std.specs.Prelude.{ℕ, ◌<◌, ◌≡◌, ◌⊎◌, Bool, true, cond, ◌&&◌, ◌||◌, List, Option, None, Some, T, ltb}
+use Rattle.std.specs.Prelude.{ℕ, ◌<◌, ◌≡◌, ◌⊎◌, Bool, true, cond, ◌&&◌, ◌||◌, List, Option, None, Some, Result, T, ltb}
 use Rattle.answers.specs.Checks.{accepted}
 use Rattle.slots.specs.declared.Slot.{Slot}
 use Rattle.slots.specs.Slots.{slot_at}
@@ -41,5 +41,5 @@ pub record Orders (ss : List Slot) (r : Ranking) : Type 0 where
   pub fills : r ≡ ranking_of (accepted order)
 
 -- the ranking of every list of slots that was read so
-pub record RanksLent (lent : Option (List Slot)) (r : Ranking) : Type 0 where
+pub record RanksLent (lent : Result (List Slot) ℕ) (r : Ranking) : Type 0 where
   pub ranks : (ss : List Slot) → Loads ss lent → Ranks ss r

@@ -27,40 +27,30 @@ pub(crate) fn product(a: u32, b: u32) -> u64
     u64::from(a) * u64::from(b)
 }
 
-/// Slot m comes before slot n: its fraction is smaller, or the same and its number lower.
-pub(crate) fn before(x: Slot, m: usize, y: Slot, n: usize) -> bool
-    ensures { result ≡ before? x m y n }
+/// Slot x comes before slot y: its fraction is smaller, or the same and its number lower. Fractions are compared by their cross products.
+pub(crate) fn before(x: Placed, y: Placed) -> bool
+    ensures { result ≡ before? x.slot x.at y.slot y.at }
 {
-    let p = product(x.b, y.whole);
-    let q = product(y.b, x.whole);
-    p < q || p == q && m < n
+    (product(x.slot.b, y.slot.whole), x.at) < (product(y.slot.b, x.slot.whole), y.at)
 }
 
-/// The better of the best so far, where there is one, and slot m, which counts where it is held.
+/// The better of the best so far, where there is one, and one slot more, which counts where it is held.
 #[tactic(auto, unfolding(crate::specs::Ordering::better_of))]
-pub(crate) fn better(s: Slot, m: usize, best: Option<Placed>) -> Option<Placed>
-    ensures { result ≡ better_of s m best }
+pub(crate) fn better(next: Placed, best: Option<Placed>) -> Option<Placed>
+    ensures { result ≡ better_of next.slot next.at best }
 {
-    let ahead = match best {
-        Some(b) => before(s, m, b.slot, b.at),
-        None => true,
-    };
-    if s.held && ahead {
-        return Some(Placed { at: m, slot: s });
+    if next.slot.held && best.is_none_or(|b| before(next, b)) {
+        return Some(next);
     }
     best
 }
 
-/// The first of the held slots.
+/// The first of the held slots in rank.
 pub(crate) fn first(slots: &[Slot; 16]) -> Option<Placed>
     requires { T (all_good? slots.now) }
     ensures { FirstHeld slots.now 16 result }
 {
-    let mut best = None;
-    for (m, slot) in slots.iter().enumerate() {
-        best = better(*slot, m, best);
-    }
-    best
+    slots.iter().enumerate().fold(None, |best, (at, &slot)| better(Placed { at, slot }, best))
 }
 
 /// The held slots in rank, where the slots are in range: the first one, then each time the first of those that are left.
@@ -70,6 +60,7 @@ pub(crate) fn ordered(slots: [Slot; 16]) -> Ranking
 {
     let mut left = slots;
     let mut order = [0; 16];
+    // kept: a count beside the array, as the struct for C has them; each turn finds the one slot that comes next
     let mut count = 0;
     while let Some(next) = first(&left) {
         order[count] = next.at;
@@ -99,10 +90,10 @@ pub(crate) fn out_of_range() -> Ranking
 
 /// The held slots in rank, or 54.
 #[tactic(auto, using(crate::proofs::RankingLaws::not_read, crate::proofs::RankingLaws::not_good, crate::proofs::RankingLaws::all_ranked))]
-pub fn ranked(lent: Option<[Slot; 16]>) -> Ranking
+pub fn ranked(lent: Result<[Slot; 16], usize>) -> Ranking
     ensures { RanksLent lent result }
 {
-    let Some(slots) = lent else {
+    let Ok(slots) = lent else {
         return out_of_range();
     };
     if !submissions::all_good(&slots) {

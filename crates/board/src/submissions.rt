@@ -1,5 +1,5 @@
 // A submission: its refusals before the judge, the judge's answer, what is spent, and the slot that is to be written.
-ghost use Rattle.std.specs.Prelude.{◌<◌, ◌≡◌};
+ghost use Rattle.std.specs.Prelude.{◌<◌, ◌≡◌, Ok};
 ghost use Rattle.answers.specs.Checks.{First};
 ghost use Rattle.answers.specs.Refusals.{answer_of};
 ghost use Rattle.board.specs.Board.{good_slot?, all_good?, good_ledger?, spend};
@@ -71,7 +71,6 @@ pub(crate) fn good_slot(s: Slot) -> bool
 }
 
 /// The held slots are in range.
-#[tactic(auto, using(crate::proofs::SlotLaws::all_pass))]
 pub(crate) fn all_good(slots: &[Slot; 16]) -> bool
     ensures { result ≡ all_good? slots.now }
 {
@@ -93,8 +92,9 @@ pub(crate) fn may_write(team: u32, s: Slot) -> bool
 }
 
 /// The slots that were read, what stands beside them and what a submission names are in range.
+// kept: ledger and request side by side, here and below, as C hands them over
 pub(crate) fn in_range(slots: &[Slot; 16], ledger: Ledger, request: Request) -> bool
-    ensures { result ≡ lent_in_range? (Some slots.now) ledger request }
+    ensures { result ≡ lent_in_range? (Ok slots.now) ledger request }
 {
     all_good(slots) && good_ledger(ledger) && request.team <= 7 && request.slot < 16
 }
@@ -124,14 +124,15 @@ impl From<Result<Certificate, Refusal>> for Reply {
 }
 
 /// What is left where a submission gets as far as the judge, or 54, 55 or 56.
+#[tactic(auto, using(crate::proofs::DecisionLaws::admitting))]
 pub(crate) fn admitted(
-    lent: &Option<[Slot; 16]>,
+    lent: &Result<[Slot; 16], usize>,
     ledger: Ledger,
     request: Request,
 ) -> Result<Ledger, Refusal>
     ensures { First (lent_checks lent.now ledger request) (λ left. left ≡ spend ledger) (answer_of result) }
 {
-    let Some(slots) = lent else {
+    let Ok(slots) = lent else {
         return Err(Reason::BoardOutOfRange.at(0));
     };
     if !in_range(slots, ledger, request) {
@@ -186,7 +187,7 @@ pub(crate) fn outcome(
 
 /// What a submission comes to: 54, 55, 56, or the judge's answer, which spends one.
 pub fn decide(
-    lent: Option<[Slot; 16]>,
+    lent: Result<[Slot; 16], usize>,
     ledger: Ledger,
     request: Request,
     model: &[u32],

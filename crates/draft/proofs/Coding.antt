@@ -1,13 +1,28 @@
--- How the codes of an exploration stand for rows: for each row that is found, and for the weights, nodes and tests of its edges. Assumes nothing.
-use Prim.Native.Nat.{ℕ, ◌+◌}
+-- How the nodes of an exploration stand for what is found: the front of each node, and codes for each row, and for the weights, nodes and tests of its
+-- edges. Assumes nothing.
+use Prim.Native.Nat.{ℕ}
 use mathlib.Core.Path.{◌≡◌}
-use mathlib.Core.List.{List, [], ◌∷◌, ◌++◌}
-use lib.ListN.{length}
-use Rattle.drafting.specs.Exploring.{FoundRow, blocked, to_nodes}
+use mathlib.Core.List.{List, [], ◌∷◌, ◌++◌, map}
+use Rattle.answers.specs.Checks.{refused, accepted}
+use Rattle.answers.specs.Refusals.{number}
+use Rattle.answers.specs.declared.Reason.{Reason}
+use Rattle.std.specs.Prelude.{Result, Ok, Err}
+use Rattle.model.specs.Model.{Model}
+use Rattle.drafting.specs.Exploring.{Found, FoundRow, blocked, to_nodes, exploring}
+use Rattle.drafting.specs.Words.{bound_word}
 use Rattle.drafting.proofs.Shares.{Share, Valued}
-use Rattle.draft.specs.Exploration.{code_of}
+use Rattle.drafting.proofs.ValuedRows.{ValuedAll}
+use Rattle.draft.specs.Fronts.{front}
+use Rattle.draft.specs.Nodes.{fronts_of, rows_of}
+use Rattle.draft.specs.Exploration.{code_of, Explored}
+use Rattle.draft.specs.declared.nodes.Front.{Front}
+use Rattle.draft.specs.declared.nodes.Node.{Node}
 
--- those of a row with successors
+-- that of a node found
+abbrev pub front_of : Found → Front
+front_of F = front F.location (map bound_word F.zone)
+
+-- the codes of a row with successors
 unfoldable pub share_codes : List Share → List ℕ
 share_codes [] = []
 share_codes (s ∷ ss) = code_of s.node s.outside ∷ share_codes ss
@@ -19,19 +34,28 @@ rows_codes (blocked ∷ rs) sss = 255 ∷ rows_codes rs sss
 rows_codes (to_nodes ns ∷ rs) [] = []
 rows_codes (to_nodes ns ∷ rs) (ss ∷ sss) = share_codes ss ++ rows_codes rs sss
 
--- those of all nodes
-unfoldable pub all_codes : List (List FoundRow) → List Valued → List ℕ
-all_codes [] qs = []
-all_codes (rs ∷ rows) [] = []
-all_codes (rs ∷ rows) (q ∷ qs) = rows_codes rs q.rows ++ all_codes rows qs
+-- those of each node
+unfoldable pub all_rows : List (List FoundRow) → List Valued → List (List ℕ)
+all_rows [] qs = []
+all_rows (rs ∷ rows) [] = []
+all_rows (rs ∷ rows) (q ∷ qs) = rows_codes rs q.rows ∷ all_rows rows qs
 
--- where those of each node end, the first of which begin at p
-unfoldable pub ends_from : ℕ → List (List FoundRow) → List Valued → List ℕ
-ends_from p [] qs = []
-ends_from p (rs ∷ rows) [] = []
-ends_from p (rs ∷ rows) (q ∷ qs) = (p + length (rows_codes rs q.rows)) ∷ ends_from (p + length (rows_codes rs q.rows)) rows qs
+-- the nodes are those found, with their rows
+pub record Stored (Fs : List Found) (rows : List (List FoundRow)) (qs : List Valued) (nodes : List Node) : Type 0 where
+  pub fronts : fronts_of nodes ≡ map front_of Fs
+  pub rows_are : rows_of nodes ≡ all_rows rows qs
 
--- the codes and ends are those of these rows
-pub record Coded (rows : List (List FoundRow)) (qs : List Valued) (codes ends : List ℕ) : Type 0 where
-  pub codes_are : codes ≡ all_codes rows qs
-  pub ends_are : ends ≡ ends_from 0 rows qs
+-- ---- what is explored is what is found, with its rows
+pub record AllExplored (M : Model) (X : Explored) : Type 0 where
+  pub found : List Found
+  pub rows : List (List FoundRow)
+  pub valued : List Valued
+  pub explores : exploring M [] (accepted (record { found = found; result = rows }))
+  pub fronts : X.fronts ≡ map front_of found
+  pub values : ValuedAll M found rows valued
+  pub coded : X.rows ≡ all_rows rows valued
+
+-- or the definition refuses
+abbrev pub ExploredRight : Model → Result Explored Reason → Type 0
+ExploredRight M (Ok X) = AllExplored M X
+ExploredRight M (Err r) = exploring M [] (refused (number r) 0)

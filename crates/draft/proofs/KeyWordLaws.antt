@@ -1,6 +1,6 @@
 -- The word of a bound, worked out from the bound's key. Assumes nothing.
 use Prim.Native.Nat.{ℕ, zero, suc, ◌+◌, ◌-◌, ◌*◌, ◌/◌, ◌%◌, ◌^◌, ◌≤◌, ◌<◌}
-use mathlib.Core.Path.{◌≡◌, refl, ◌∙◌}
+use mathlib.Core.Path.{◌≡◌, refl, ap, ◌∙◌}
 use mathlib.Core.Bool.{cond, ◌&&◌}
 use native.Mathlib.Omega.{arith}
 use lib.Dec.{T, eqb, leb, leb→le, le→leb}
@@ -15,7 +15,7 @@ use Rattle.zone.proofs.Bools.{both, and, same_test}
 use Rattle.zone.proofs.Integers.{up, dn, abs-parts, abs-small, lt_z→, →lt_z, parts_add}
 use Rattle.zone.proofs.Limits.{halved}
 use Rattle.zone.proofs.Machine.{back32}
-use Rattle.drafting.specs.Words.{bound_word}
+use Rattle.drafting.specs.Words.{word, bound_word}
 use Rattle.draft.specs.Fronts.{bound_at, narrow_bound?}
 
 -- ---- d is at most 4,095 either way exactly where the key lies from -8,190 to 8,191
@@ -36,11 +36,11 @@ pub is-narrow : (a : Cell) → T (narrow_bound? a) → Narrow a.key
 unfolding narrow_bound?
 is-narrow a t = narrow→ a.key (leb→le (nat_abs (half a.key)) 4095 t)
 
-pub narrow-test :
+pub narrow_test :
     (a : Cell) → mag a.key < 2 ^ 31 →
     (lt_z (negsuc 8190) (to_z w32 (of_z w32 a.key)) && lt_z (to_z w32 (of_z w32 a.key)) (pos 8192)) ≡ narrow_bound? a
 unfolding narrow_bound?
-narrow-test a h = rw (back32 a.key h) (same_test _ _ there back)
+narrow_test a h = rw (back32 a.key h) (same_test _ _ there back)
   where
     z : ℤ
     z = a.key
@@ -112,19 +112,20 @@ even_bit (suc zero) h = refl
 even_bit (suc (suc n)) h = absurd (omega arith)
 
 module _ (i j f m b s : ℕ) (e : f ≡ 2 * m + b) (h : b < 2) (t : (1 - b) * 2 ^ 19 ≡ s) where
-  word_sum : 5 * 2 ^ 28 + (i * 2 ^ 24 + j * 2 ^ 20) + (1 - f % 2) * 2 ^ 19 + f / 2 ≡ 5 * 2 ^ 28 + (i * 2 ^ 24 + j * 2 ^ 20 + s + m)
-  word_sum =
+  fields-are : i * 2 ^ 24 + j * 2 ^ 20 + (1 - f % 2) * 2 ^ 19 + f / 2 ≡ i * 2 ^ 24 + j * 2 ^ 20 + s + m
+  fields-are =
       let q : f % 2 ≡ b = omega arith in
       let r : f / 2 ≡ m = omega arith in
-      rw (q, r, t) (omega arith)
+      rw (q, r, t) refl
 
 pub word-is : (i j : ℕ) (a : Cell) (h : mag a.key < 2 ^ 31) (n : Narrow a.key) →
-    5 * 2 ^ 28 + (i * 2 ^ 24 + j * 2 ^ 20) + (1 - field a.key h n % 2) * 2 ^ 19 + field a.key h n / 2 ≡ bound_word (bound_at i j a)
+    word 5 (i * 2 ^ 24 + j * 2 ^ 20 + (1 - field a.key h n % 2) * 2 ^ 19 + field a.key h n / 2) ≡ bound_word (bound_at i j a)
 word-is i j a h n =
     let l = (halved a.key).small in
-    word_sum i j (field a.key h n) (nat_abs (half a.key +ℤ pos 4096)) (lowest a.key) (cond (eqb (lowest a.key) 0) (2 ^ 19) 0)
-    (field-parts a.key h n) l (even_bit (lowest a.key) l)
+    ap (word 5)
+    (fields-are i j (field a.key h n) (nat_abs (half a.key +ℤ pos 4096)) (lowest a.key) (cond (eqb (lowest a.key) 0) (2 ^ 19) 0)
+    (field-parts a.key h n) l (even_bit (lowest a.key) l))
 
--- the sum fits
-pub word_fits : (i j f : ℕ) → i < 5 → j < 5 → f < 2 ^ 14 → Fits w32 (5 * 2 ^ 28 + (i * 2 ^ 24 + j * 2 ^ 20) + (1 - f % 2) * 2 ^ 19 + f / 2)
-word_fits i j f h k l = omega arith
+-- the fields fit
+pub fields_fit : (i j f : ℕ) → i < 5 → j < 5 → f < 2 ^ 14 → i * 2 ^ 24 + j * 2 ^ 20 + (1 - f % 2) * 2 ^ 19 + f / 2 < 2 ^ 28
+fields_fit i j f h k l = omega arith

@@ -15,7 +15,8 @@ use Rattle.zone.proofs.Regions.{in_both, stands_same}
 use Rattle.zone.proofs.Spans.{Spans, spans, spans-met, inside-yes}
 use Rattle.model.specs.Model.{Edge, Action, Model}
 use Rattle.model.specs.States.{location_at}
-use Rattle.model.specs.Index.{Kept, start_square}
+use Rattle.model.specs.Index.{start_square}
+use Rattle.model.specs.declared.index.IndexedModel.{IndexedModel}
 use Rattle.model.specs.Indexed.{ActionAt, Indexed, with_bounds}
 use Rattle.model.proofs.ZoneLaws.{GoodZone, stands-bounds}
 use Rattle.model.proofs.GoodModel.{GoodAction, GoodModel}
@@ -53,7 +54,7 @@ reset-filled : (mask : ℕ) (y : Square) → empty? y ≡ false → empty? (rese
 reset-filled mask y e =
     ok-nonempty (reset_square mask y) (λ i h. rw (table-reset mask y i i h h) (nonempty-ok y e (source mask i) (source-lt mask i h)))
 
-module _ {M : Model} {m : Kept} (x : Indexed M m) (good : GoodModel M) where
+module _ {M : Model} {m : IndexedModel} (x : Indexed M m) (good : GoodModel M) where
   -- ---- an edge, from the reach of an action
   module _ (F : Found) (l : F.location < length M.locations) (z : GoodZone F.zone) {a : ℕ} {A : Action} (i : ActionAt m a A) (g : GoodAction A)
       (filled : empty? (row_reach x good (as_node F) l z i g) ≡ false) (E : Edge) (to : E.to < length M.locations) where

@@ -1,34 +1,28 @@
--- Rounds over the stores are the rounds over the rows found, and the words put together with their values are the draft. Assumes nothing.
-use Prim.Native.Nat.{ℕ, zero, suc, ◌+◌, ◌-◌, ◌*◌, ◌%◌, ◌≤◌, ◌<◌, max}
+-- Rounds over nodes and codes are the rounds over the rows found. Assumes nothing.
+use Prim.Native.Nat.{ℕ, zero, suc, ◌+◌, ◌-◌, ◌*◌, ◌≤◌, ◌<◌, max}
 use mathlib.Core.Path.{◌≡◌, refl, sym, ap, ap₂, subst, ◌∙◌}
-use mathlib.Core.Logic.{◌⊎◌, inl, inr}
 use mathlib.Core.Bool.{Bool, true, false, cond}
-use mathlib.Core.List.{List, [], ◌∷◌, ◌++◌, append_assoc}
+use mathlib.Core.List.{List, [], ◌∷◌, ◌++◌, map}
 use native.Mathlib.Nat as N
 use native.Mathlib.Numerals.{add-one}
 use native.Mathlib.Omega.{arith}
-use borrow.Author.Tests.{ne_eqb}
-use lib.Dec.{eqb}
-use lib.ListN.{get_or, length, take, drop, set, replicate, length-set, length-replicate, get_or-replicate}
+use borrow.Author.Tests.{ne_eqb, le-ltb}
+use lib.Dec.{eqb, ltb}
+use lib.ListN.{get_or, length, take, drop, set, replicate, length-append, length-set, length-replicate, get_or-replicate}
 use lib.Seq.{drop_at, get_or-take, get_or-set_same, get_or-set_other, length-take-le}
-use Rattle.zone.proofs.Integers.{lt-or-ge}
 use Rattle.zone.proofs.Bools.{false_true, true_false}
-use Rattle.model.specs.Model.{Edge, Action, Location, Model}
+use Rattle.model.specs.Model.{Edge, Action, Location, Model, edge_of}
 use Rattle.model.specs.States.{location_at}
-use Rattle.model.specs.Index.{Kept}
-use Rattle.model.specs.declared.index.Index.{Index}
-use Rattle.model.specs.Indexed.{Each, EdgeAt, ActionAt, LocationAt, Indexed}
+use Rattle.model.specs.declared.index.IndexedModel.{IndexedModel}
+use Rattle.model.specs.Indexed.{Each, ActionAt, LocationAt, Indexed}
 use Rattle.model.proofs.ZoneLaws.{All, empty, more}
 use Rattle.model.proofs.WellFormed.{FormedAction, WellFormed}
 use Rattle.model.proofs.IndexLaws.{location-at}
-use Rattle.table.specs.Fields.{location_of}
-use Rattle.table.specs.Scan.{edges_at}
 use Rattle.table.specs.Table.{row_actions}
-use Rattle.judge.proofs.RowLaws.{front, behind, all-below, edges-at}
+use Rattle.judge.proofs.RowLaws.{all-below}
 use Rattle.drafting.specs.Exploring.{Found, FoundRow, no_found}
-use Rattle.drafting.specs.Words.{whole, front_words, words_of}
+use Rattle.drafting.specs.Words.{whole}
 use Rattle.drafting.specs.Rounds.{rounded_up}
-use Rattle.drafting.proofs.WordBack.{node-fields}
 use Rattle.drafting.proofs.Shares.{Share, Valued, no_valued, sum_of, largest, round_at, round_each, round, rounds, values_after}
 use Rattle.drafting.proofs.ReadBack.{Numbers, RowsWritable}
 use Rattle.drafting.proofs.ExploreLaws.{AllFound}
@@ -47,40 +41,36 @@ use Rattle.drafting.proofs.ValuedRows.{
 }
 use Rattle.drafting.proofs.DraftTable.{rows_writable}
 use Rattle.draft.specs.Exploration.{code_of}
-use Rattle.draft.specs.Nodes.{front_at}
-use Rattle.draft.specs.Values.{sum_from, largest_from, value_at, begin_of, round_below, rounds_of, values_of}
-use Rattle.draft.specs.Writing.{draft_text}
-use Rattle.draft.proofs.Coding.{share_codes, rows_codes}
-use Rattle.draft.proofs.CodeLaws.{Stored, StoredAt, stored_at}
-use Rattle.draft.proofs.TextLaws.{text-right}
+use Rattle.draft.specs.Nodes.{no_node}
+use Rattle.draft.specs.Asked.{edges_of}
+use Rattle.draft.specs.Values.{value_of, largest_from, value_at, round_from, round_of, rounds_of, values_of}
+use Rattle.draft.specs.Values.{sum_of as codes_sum}
+use Rattle.draft.specs.declared.nodes.Front.{Front}
+use Rattle.draft.specs.declared.nodes.Node.{Node}
+use Rattle.draft.proofs.EdgeLaws.{edges-read, edges-many}
+use Rattle.draft.proofs.Coding.{front_of, share_codes, rows_codes, Stored}
+use Rattle.draft.proofs.StoredLaws.{stored-length, stored-front, stored-rows}
 
--- 128 values: those of so many nodes first, us, and V from number 64 on
+-- 256 values: those of so many nodes first, us, and V from number 64 on
 pub record ValuesAre (count : ℕ) (vs us : List ℕ) : Type 0 where
-  pub size : length vs ≡ 128
+  pub size : length vs ≡ 256
   pub nodes : take count vs ≡ us
-  pub past : (n : ℕ) → 64 ≤ n → n < 128 → get_or vs n 0 ≡ whole
+  pub past : (n : ℕ) → 64 ≤ n → n < 256 → get_or vs n 0 ≡ whole
 
 -- ---- the value of a node
-module _ (codes : List ℕ) (count : ℕ) (few : count ≤ 64) (vs us : List ℕ) (values : ValuesAre count vs us) where
+module _ (count : ℕ) (few : count ≤ 64) (vs us : List ℕ) (values : ValuesAre count vs us) where
   -- a code tells the number of what its edge has in the sum
-  code-value : (n : ℕ) (o : Bool) → n < count → get_or vs (code_of n o % 128) 0 ≡ cond o whole (get_or us n 0)
-  code-value n true h = let e : (n + 64) % 128 ≡ n + 64 = omega arith in rw e (values.past (n + 64) (omega arith) (omega arith))
-  code-value n false h =
-      let e : n % 128 ≡ n = omega arith in
-      rw (e, ← values.nodes) (sym (get_or-take count vs n 0 h))
+  code-value : (n : ℕ) (o : Bool) → n < count → value_of vs (code_of n o) ≡ cond o whole (get_or us n 0)
+  code-value n true h = values.past (n + 64) (omega arith) (omega arith)
+  code-value n false h = rw (← values.nodes) (sym (get_or-take count vs n 0 h))
 
-  module _ {M : Model} {m : Kept} (x : Indexed M m) (F : Found) where
-    sum-right : {A : Action} {es : List Edge} {ns : List ℕ} {ss : List Share} → SharesOf M F A es ns ss → Numbers count ns → (e at : ℕ) →
-        Each (EdgeAt m) e es → (rest : List ℕ) → drop at codes ≡ share_codes ss ++ rest →
-        sum_from m.edges codes vs (length es) e at ≡ sum_of us ss
-    unfolding sum_from sum_of share_codes Each
-    sum-right no_edge g e at i rest h = refl
-    sum-right (next_edge {s = s} {ss = ss} t ts) g e at i rest h =
-        ap₂ ◌+◌
-        (ap₂ ◌*◌ (ap (λ (E : Edge). E.weight) i.0.reads ∙ sym t.weight)
-        (ap (λ (c : ℕ). get_or vs (c % 128) 0) (front at codes _ h) ∙ code-value s.node s.outside (rw t.node g.0)))
-        (sum-right ts g.1 (suc e) (suc at) i.1 rest
-        (subst (λ (k : ℕ). drop k codes ≡ share_codes ss ++ rest) (add-one at) (behind 1 at codes _ h)))
+  module _ {M : Model} {m : IndexedModel} (x : Indexed M m) (F : Found) where
+    sum-right : (ws : List ℕ) {A : Action} {ns : List ℕ} {ss : List Share} → SharesOf M F A (map edge_of ws) ns ss → Numbers count ns → (rest : List ℕ) →
+        codes_sum vs ws (share_codes ss ++ rest) ≡ sum_of us ss
+    unfolding codes_sum sum_of share_codes
+    sum-right [] no_edge g rest = refl
+    sum-right (w ∷ ws) (next_edge {s = s} {ss = ss} t ts) g rest =
+        ap₂ ◌+◌ (ap₂ ◌*◌ (sym t.weight) (code-value s.node s.outside (rw t.node g.0))) (sum-right ws ts g.1 rest)
 
     codes-length : {A : Action} {es : List Edge} {ns : List ℕ} {ss : List Share} → SharesOf M F A es ns ss → length (share_codes ss) ≡ length es
     unfolding share_codes
@@ -92,27 +82,21 @@ module _ (codes : List ℕ) (count : ℕ) (few : count ≤ 64) (vs us : List ℕ
         (rest : List ℕ) → eqb (get_or (share_codes ss ++ rest) 0 0) 255 ≡ false
     unfolding share_codes
     first_code no_edge g some rest = absurd (N.not-suc-le-zero some)
-    first_code (next_edge {s = s} t ts) g some rest = by s.outside (rw t.node g.0)
+    first_code (next_edge {s = s} {ss = ss} t ts) g some rest = by s.outside (rw t.node g.0)
       where
         by : (o : Bool) → s.node < count → eqb (code_of s.node o) 255 ≡ false
         by true h = ne_eqb (s.node + 64) 255 (λ e. omega arith)
         by false h = ne_eqb s.node 255 (λ e. omega arith)
 
     largest-right : {As : List Action} {rs : List FoundRow} {sss : List (List Share)} → ShareRows M F As rs sss → All (FormedAction M) As →
-        RowsWritable count As rs → (a at best : ℕ) → Each (ActionAt m) a As → (rest : List ℕ) → drop at codes ≡ rows_codes rs sss ++ rest →
-        largest_from m.edges codes vs m.index (length As) a at best ≡ max best (largest M.denominator us sss)
+        RowsWritable count As rs → (a best : ℕ) → Each (ActionAt m) a As →
+        largest_from vs m (length As) a (rows_codes rs sss) best ≡ max best (largest M.denominator us sss)
     unfolding largest_from largest rows_codes Each
-    largest-right no_row empty g a at best i rest h = sym (N.max-zero best)
-    largest-right (pass_blocked {A} {As} {rs} {sss} t) (more f fs) g a at best i rest h =
-        rw (front at codes _ h)
-        (largest-right t fs g.1 (suc a) (suc at) best i.1 rest
-        (subst (λ (k : ℕ). drop k codes ≡ rows_codes rs sss ++ rest) (add-one at) (behind 1 at codes _ h)))
-    largest-right (next_row {A} {ns} {ss} {As} {rs} {sss} s t) (more f fs) g a at best i rest h =
-        let edges : edges_at m.index a ≡ length A.edges = edges-at i.0 in
-        let sum : sum_from m.edges codes vs (length A.edges) (get_or m.index.edges a 0) at ≡ sum_of us ss =
-        sum-right s g.0.2 (get_or m.index.edges a 0) at i.0.edges (rows_codes rs sss ++ rest) split in
-        rw (first, edges, sum)
-        (largest-right t fs g.1 (suc a) (at + length A.edges) (max best (up m.index.denominator)) i.1 rest later
+    largest-right no_row empty g a best i = sym (N.max-zero best)
+    largest-right (pass_blocked {A} {As} {rs} {sss} t) (more f fs) g a best i = largest-right t fs g.1 (suc a) best i.1
+    largest-right (next_row {A} {ns} {ss} {As} {rs} {sss} s t) (more f fs) g a best i =
+        rw (first_code s g.0.2 f.some codes, many, enough, later, sum)
+        (largest-right t fs g.1 (suc a) (max best (up m.index.denominator)) i.1
         ∙ regroup best (up m.index.denominator) others
         ∙ ap (λ (D : ℕ). max best (max (up D) others)) x.denominator)
       where
@@ -122,26 +106,31 @@ module _ (codes : List ℕ) (count : ℕ) (few : count ≤ 64) (vs us : List ℕ
         others : ℕ
         others = largest M.denominator us sss
 
-        split : drop at codes ≡ share_codes ss ++ (rows_codes rs sss ++ rest)
-        split = h ∙ append_assoc (share_codes ss) (rows_codes rs sss) rest
+        codes : List ℕ
+        codes = rows_codes rs sss
 
-        first : eqb (get_or codes at 0) 255 ≡ false
-        first = rw (front at codes _ split) (first_code s g.0.2 f.some (rows_codes rs sss ++ rest))
+        many : length (edges_of m a) ≡ length A.edges
+        many = edges-many i.0 f.edges
 
-        later : drop (at + length A.edges) codes ≡ rows_codes rs sss ++ rest
-        later =
-            behind (length A.edges) at codes _ split
-            ∙ drop_at (share_codes ss) (rows_codes rs sss ++ rest) (length A.edges) (codes-length s)
+        enough : ltb (length (share_codes ss ++ codes)) (length A.edges) ≡ false
+        enough = le-ltb (length (share_codes ss ++ codes)) (length A.edges) (omega (arith, length-append (share_codes ss) codes, codes-length s))
+
+        later : drop (length A.edges) (share_codes ss ++ codes) ≡ codes
+        later = drop_at (share_codes ss) codes (length A.edges) (codes-length s)
+
+        sum : codes_sum vs (edges_of m a) (share_codes ss ++ codes) ≡ sum_of us ss
+        sum = sum-right (edges_of m a) (subst (λ (es : List Edge). SharesOf M F A es ns ss) (sym (edges-read i.0 f.edges)) s) g.0.2 codes
 
         regroup : (a b c : ℕ) → max (max a b) c ≡ max a (max b c)
         regroup a b c = omega arith
 
-    -- at a location that exists; the codes begin at `at`
+    -- at a location that exists
     value-right : WellFormed M → F.location < length M.locations → (rs : List FoundRow) (q : Valued) → ValuedIs M F rs q →
-        RowsWritable count (row_actions (location_at M F.location)) rs → (at v : ℕ) (rest : List ℕ) → drop at codes ≡ rows_codes rs q.rows ++ rest →
-        value_at m.edges codes vs m.index F.location at v ≡ round_at M.denominator us q v
+        RowsWritable count (row_actions (location_at M F.location)) rs → (n : Node) → n.front ≡ front_of F → n.rows.items ≡ rows_codes rs q.rows → (v : ℕ) →
+        value_at vs m n v ≡ round_at M.denominator us q v
     unfolding value_at round_at row_actions
-    value-right formed there rs q valued g at v rest h = by L.target q.target valued.target here.target valued.rows g
+    value-right formed there rs q valued g n e f v =
+        rw (ap (λ (f : Front). f.location) e, f) (by L.target q.target valued.target here.target valued.rows g)
       where
         L : Location
         L = location_at M F.location
@@ -156,7 +145,7 @@ module _ (codes : List ℕ) (count : ℕ) (few : count ≤ 64) (vs us : List ℕ
         number = let ends = here.ends in rw (add-one F.location) (omega arith)
 
         after : ℕ
-        after = largest_from m.edges codes vs m.index (get_or m.index.actions (F.location + 1) 0 - first) first at 0
+        after = largest_from vs m (get_or m.index.actions (F.location + 1) 0 - first) first (rows_codes rs q.rows) 0
 
         by : (c d : Bool) → d ≡ c → get_or m.index.targets F.location false ≡ c → ShareRows M F (cond c [] L.actions) rs q.rows →
             RowsWritable count (cond c [] L.actions) rs → cond (get_or m.index.targets F.location false) v after ≡ cond d v (largest M.denominator us q.rows)
@@ -164,40 +153,35 @@ module _ (codes : List ℕ) (count : ℕ) (few : count ≤ 64) (vs us : List ℕ
         by true false e k t g = false_true e
         by false true e k t g = true_false e
         by false false e k t g =
-            rw (k, number)
-            (largest-right t (formed.actions F.location) g first at 0 here.actions rest h ∙ N.zero-max (largest M.denominator us q.rows))
+            rw (k, number) (largest-right t (formed.actions F.location) g first 0 here.actions ∙ N.zero-max (largest M.denominator us q.rows))
 
 -- ---- a round
-module _ (x : Index) (es nodes codes ends : List ℕ) where
-  -- what a node's value is replaced by
-  abbrev after : List ℕ → ℕ → ℕ
-  after vs n = value_at es codes vs x (location_of (get_or (front_at nodes n) 0 0)) (begin_of ends n) (get_or vs n 0)
+module _ (m : IndexedModel) (vs : List ℕ) where
+  pub round-length : (nodes : List Node) (k : ℕ) (us : List ℕ) → length (round_from m vs nodes k us) ≡ length us
+  unfolding round_from
+  round-length [] k us = refl
+  round-length (n ∷ ns) k us = round-length ns (suc k) _ ∙ length-set us k _
 
-  below_length : (n : ℕ) (vs : List ℕ) → length (round_below x es nodes codes ends n vs) ≡ length vs
-  unfolding round_below
-  below_length zero vs = refl
-  below_length (suc n) vs = length-set (round_below x es nodes codes ends n vs) n _ ∙ below_length n vs
+  -- the values before number k and behind the nodes stay
+  round-before : (nodes : List Node) (k : ℕ) (us : List ℕ) (i : ℕ) → i < k → get_or (round_from m vs nodes k us) i 0 ≡ get_or us i 0
+  unfolding round_from
+  round-before [] k us i h = refl
+  round-before (n ∷ ns) k us i h = round-before ns (suc k) _ i (omega arith) ∙ get_or-set_other us k i _ 0 (λ e. omega arith)
 
-  -- the values from number n on stay
-  pub below-past : (n : ℕ) (vs : List ℕ) (i : ℕ) → n ≤ i → get_or (round_below x es nodes codes ends n vs) i 0 ≡ get_or vs i 0
-  unfolding round_below
-  below-past zero vs i h = refl
-  below-past (suc n) vs i h =
-      get_or-set_other (round_below x es nodes codes ends n vs) n i _ 0 (λ e. omega arith) ∙ below-past n vs i (omega arith)
+  round-past : (nodes : List Node) (k : ℕ) (us : List ℕ) (i : ℕ) → k + length nodes ≤ i → get_or (round_from m vs nodes k us) i 0 ≡ get_or us i 0
+  unfolding round_from
+  round-past [] k us i h = refl
+  round-past (n ∷ ns) k us i h = round-past ns (suc k) _ i (omega arith) ∙ get_or-set_other us k i _ 0 (λ e. omega arith)
 
-  below_at : (n : ℕ) (vs : List ℕ) → n ≤ length vs → (i : ℕ) → i < n → get_or (round_below x es nodes codes ends n vs) i 0 ≡ after vs i
-  unfolding round_below
-  below_at zero vs g i h = absurd (N.not-suc-le-zero h)
-  below_at (suc n) vs g i h = by (lt-or-ge i n) (λ l. below_at n vs (omega arith) i l)
-    where
-      us : List ℕ
-      us = round_below x es nodes codes ends n vs
-
-      by : (i < n) ⊎ (n ≤ i) → (i < n → get_or us i 0 ≡ after vs i) → get_or (set us n (after vs n)) i 0 ≡ after vs i
-      by (inl l) before = get_or-set_other us n i (after vs n) 0 (λ e. omega arith) ∙ before l
-      by (inr l) before =
-          let e : i ≡ n = omega arith in
-          rw e (get_or-set_same us n (after vs n) 0 (rw (below_length n vs) g))
+  round-node : (nodes : List Node) (k : ℕ) (us : List ℕ) → k + length nodes ≤ length us → (i : ℕ) → i < length nodes →
+      get_or (round_from m vs nodes k us) (k + i) 0 ≡ value_at vs m (get_or nodes i no_node) (get_or vs (k + i) 0)
+  unfolding round_from
+  round-node [] k us g i h = absurd (N.not-suc-le-zero h)
+  round-node (n ∷ ns) k us g zero h =
+      rw (N.add-zero k) (round-before ns (suc k) _ k (omega arith) ∙ get_or-set_same us k (value_at vs m n (get_or vs k 0)) 0 (omega arith))
+  round-node (n ∷ ns) k us g (suc i) h =
+      let size = length-set us k (value_at vs m n (get_or vs k 0)) in
+      rw (N.add-suc k i, ← N.suc-add k i) (round-node ns (suc k) (set us k (value_at vs m n (get_or vs k 0))) (omega arith) i (omega arith))
 
 -- values that are replaced one by one
 each_right : (D : ℕ) (vs : List ℕ) (qs : List Valued) (us ws : List ℕ) → length us ≡ length qs → length ws ≡ length qs →
@@ -216,85 +200,71 @@ take_replicate (suc n) zero v h = absurd (N.not-suc-le-zero h)
 take_replicate (suc n) (suc k) v h = ap (λ (vs : List ℕ). v ∷ vs) (take_replicate n k v (N.le_of_suc-le-suc h))
 
 -- ---- rounds
-module _ {M : Model} {m : Kept} (x : Indexed M m) (formed : WellFormed M) {Fs : List Found} {rows : List (List FoundRow)} (found : AllFound M Fs rows)
-    {qs : List Valued} (valued : ValuedAll M Fs rows qs) {nodes codes ends : List ℕ} {count used : ℕ} (stored : Stored Fs rows qs nodes codes ends count used) where
-  few : count ≤ 64
-  few = rw stored.size found.ready.few
+module _ {M : Model} {m : IndexedModel} (x : Indexed M m) (formed : WellFormed M) {Fs : List Found} {rows : List (List FoundRow)}
+    (found : AllFound M Fs rows) {qs : List Valued} (valued : ValuedAll M Fs rows qs) {nodes : List Node} (stored : Stored Fs rows qs nodes) where
+  many : length nodes ≡ length Fs
+  many = stored-length valued stored
 
-  enough : {vs us : List ℕ} → ValuesAre count vs us → count ≤ length vs
+  few : length nodes ≤ 64
+  few = rw many found.ready.few
+
+  enough : {vs us : List ℕ} → ValuesAre (length nodes) vs us → length nodes ≤ length vs
   enough values = let size = values.size in let f = few in omega arith
 
-  after-right : {vs us : List ℕ} → ValuesAre count vs us → (n : ℕ) → n < length Fs →
-      after m.index m.edges nodes codes ends vs n ≡ round_at M.denominator us (get_or qs n no_valued) (get_or vs n 0)
-  unfolding front_words
+  after-right : {vs us : List ℕ} → ValuesAre (length nodes) vs us → (n : ℕ) → n < length Fs →
+      value_at vs m (get_or nodes n no_node) (get_or vs n 0) ≡ round_at M.denominator us (get_or qs n no_valued) (get_or vs n 0)
   after-right {vs} {us} values n l =
-      rw (at.front, (node-fields F.location small).0)
-      (value-right codes count few vs us values x F formed there (get_or rows n []) (get_or qs n no_valued) (valued-at valued n l) numbers
-      (begin_of ends n) (get_or vs n 0) at.rest at.from)
+      value-right (length nodes) few vs us values x F formed (all-below no_found n found.ready.all l).location (get_or rows n []) (get_or qs n no_valued)
+      (valued-at valued n l) (rw many (rows_writable formed found n l)) (get_or nodes n no_node) (stored-front valued stored n l)
+      (stored-rows valued stored n l) (get_or vs n 0)
     where
       F : Found
       F = get_or Fs n no_found
 
-      at : StoredAt nodes codes ends n F (get_or rows n []) (get_or qs n no_valued)
-      at = stored_at valued stored n l
-
-      there : F.location < length M.locations
-      there = (all-below no_found n found.ready.all l).location
-
-      small : F.location < 16
-      small = let e = x.locations in let h = x.limit in let g = there in omega arith
-
-      numbers : RowsWritable count (row_actions (location_at M F.location)) (get_or rows n [])
-      numbers = rw stored.size (rows_writable formed found n l)
-
-  round-right : {vs us : List ℕ} → ValuesAre count vs us →
-      ValuesAre count (round_below m.index m.edges nodes codes ends count vs) (round M.denominator qs us)
+  round-right : {vs us : List ℕ} → ValuesAre (length nodes) vs us → ValuesAre (length nodes) (round_of m nodes vs) (round M.denominator qs us)
   unfolding round
   round-right {vs} {us} values = record {
-    size = below_length m.index m.edges nodes codes ends count vs ∙ values.size;
+    size = round-length m vs nodes 0 vs ∙ values.size;
     nodes = each_right M.denominator us qs us (take count ws) (ap length (sym values.nodes) ∙ length-take-le count vs (enough values) ∙ same)
-        (length-take-le count ws (rw (below_length m.index m.edges nodes codes ends count vs) (enough values)) ∙ same) each;
-    past = λ n low high. below-past m.index m.edges nodes codes ends count vs n (N.le_trans few low) ∙ values.past n low high;
+        (length-take-le count ws (rw (round-length m vs nodes 0 vs) (enough values)) ∙ same) each;
+    past = λ n low high. round-past m vs nodes 0 vs n (rw (N.zero-add count) (N.le_trans few low)) ∙ values.past n low high;
   }
     where
+      count : ℕ
+      count = length nodes
+
       ws : List ℕ
-      ws = round_below m.index m.edges nodes codes ends count vs
+      ws = round_of m nodes vs
 
       same : count ≡ length qs
-      same = stored.size ∙ sym (valued-length valued)
+      same = many ∙ sym (valued-length valued)
 
       each : (i : ℕ) → i < length qs → get_or (take count ws) i 0 ≡ round_at M.denominator us (get_or qs i no_valued) (get_or us i 0)
       each i l =
           let c : i < count = rw same l in
           get_or-take count ws i 0 c
-          ∙ below_at m.index m.edges nodes codes ends count vs (enough values) i c
-          ∙ after-right values i (rw stored.size at c)
+          ∙ (rw (N.zero-add i) at (round-node m vs nodes 0 vs (rw (N.zero-add count) (enough values)) i c))
+          ∙ after-right values i (rw many at c)
           ∙ ap (round_at M.denominator us (get_or qs i no_valued)) (sym (get_or-take count vs i 0 c) ∙ ap (λ (vs : List ℕ). get_or vs i 0) values.nodes)
 
-  rounds-right : (n : ℕ) {vs us : List ℕ} → ValuesAre count vs us →
-      ValuesAre count (rounds_of m.index m.edges nodes codes ends count n vs) (rounds M.denominator qs n us)
+  rounds-right : (n : ℕ) {vs us : List ℕ} → ValuesAre (length nodes) vs us →
+      ValuesAre (length nodes) (rounds_of m nodes n vs) (rounds M.denominator qs n us)
   unfolding rounds_of rounds
   rounds-right zero values = values
   rounds-right (suc n) values = rounds-right n (round-right values)
 
   -- the values after n rounds
-  pub values-are : (n : ℕ) → ValuesAre count (values_of m.index m.edges nodes codes ends count n) (values_after M.denominator qs n)
+  pub values-are : (n : ℕ) → ValuesAre (length nodes) (values_of m nodes n) (values_after M.denominator qs n)
   unfolding values_of values_after
   values-are n = rounds-right n first
     where
-      first : ValuesAre count (replicate 128 whole) (replicate (length qs) whole)
+      first : ValuesAre (length nodes) (replicate 256 whole) (replicate (length qs) whole)
       first = record {
-        size = length-replicate 128 whole;
-        nodes = take_replicate count 128 whole (N.le_trans few (omega arith)) ∙ ap (λ (k : ℕ). replicate k whole) (stored.size ∙ sym (valued-length valued));
-        past = λ n low high. get_or-replicate 128 n whole 0 high;
+        size = length-replicate 256 whole;
+        nodes = take_replicate (length nodes) 256 whole (N.le_trans few (omega arith))
+            ∙ ap (λ (k : ℕ). replicate k whole) (many ∙ sym (valued-length valued));
+        past = λ n low high. get_or-replicate 256 n whole 0 high;
       }
 
-  pub values-right : (n : ℕ) → take count (values_of m.index m.edges nodes codes ends count n) ≡ values_after M.denominator qs n
-  values-right n = (values-are n).nodes
-
-  -- the words put together with them
-  pub draft-right : (n : ℕ) →
-      draft_text nodes (values_of m.index m.edges nodes codes ends count n) codes ends count ≡ words_of Fs (values_after M.denominator qs n) rows
-  draft-right n =
-      text-right formed found valued stored (values_of m.index m.edges nodes codes ends count n) (enough (values-are n))
-      ∙ ap (λ (vs : List ℕ). words_of Fs vs rows) (values-right n)
+  pub values-right : (n : ℕ) → (length (values_of m nodes n) ≡ 256) × (take (length Fs) (values_of m nodes n) ≡ values_after M.denominator qs n)
+  values-right n = ((values-are n).size, rw many at (values-are n).nodes)

@@ -1,65 +1,47 @@
--- Algorithm: the words of a draft, from the stores, and how they come into the lent words. Assumes nothing.
-use Rattle.std.specs.Prelude.{ℕ, min, zero, suc, ◌+◌, ◌%◌, ◌≤◌, ◌<◌, ◌≡◌, cond, List, [], ◌∷◌, ◌++◌, map, eqb, leb, get_or, length, take, drop}
-use Rattle.std.proofs.Math.Seq.{slice}
+-- Algorithm: the words of a draft, from the nodes and their values. Assumes nothing.
+use Rattle.std.specs.Prelude.{ℕ, min, ◌+◌, ◌*◌, ◌^◌, ◌%◌, cond, List, [], ◌∷◌, ◌++◌, map, eqb, leb, length}
+use Rattle.std.specs.List.{sum_by}
 use Rattle.answers.specs.Checks.{Answer, refused, accepted}
 use Rattle.drafting.specs.Words.{whole, word}
-use Rattle.draft.specs.Nodes.{front_at, HasNode, Holds}
-use Rattle.model.specs.Index.{Kept}
-use Rattle.draft.specs.Values.{begin_of, values_of}
-use Rattle.draft.specs.declared.explore.ZoneGraph.{ZoneGraph}
-use Rattle.draft.specs.Asked.{ValuesFit, EndsFit}
+use Rattle.model.specs.declared.index.IndexedModel.{IndexedModel}
+use Rattle.draft.specs.Values.{values_of}
+use Rattle.draft.specs.declared.nodes.Front.{Front}
+use Rattle.draft.specs.declared.nodes.Node.{Node}
 
 -- the word of a code
 unfoldable pub row_word : ℕ → ℕ
 row_word code = cond (eqb code 255) (word 10 0) (word 11 (code % 64))
 
--- the nodes, their values, the codes of the rows, and where those of each node end
-module _ (nodes vs codes ends : List ℕ) where
-  unfoldable pub node_text : ℕ → List ℕ
-  node_text n = front_at nodes n ++ (word 9 (get_or vs n 0) ∷ map row_word (slice (begin_of ends n) (get_or ends n 0) codes))
+-- the word of a node's location, and those of its bounds
+abbrev pub front_text : Front → List ℕ
+front_text f = word 8 (f.location * 2 ^ 24) ∷ f.bounds.items
 
-  -- n nodes, from number k on
-  unfoldable pub nodes_text : ℕ → ℕ → List ℕ
-  nodes_text zero k = []
-  nodes_text (suc n) k = node_text k ++ nodes_text n (suc k)
+-- a node with its value
+unfoldable pub node_text : Node → ℕ → List ℕ
+node_text n v = front_text n.front ++ (word 9 v ∷ map row_word n.rows.items)
 
-  -- the draft of so many nodes
-  unfoldable pub draft_text : ℕ → List ℕ
-  draft_text count = word 7 whole ∷ (nodes_text count 0 ++ (word 12 0 ∷ []))
+-- nodes with their values
+unfoldable pub nodes_text : List Node → List ℕ → List ℕ
+nodes_text [] vs = []
+nodes_text (n ∷ ns) [] = []
+nodes_text (n ∷ ns) (v ∷ vs) = node_text n v ++ nodes_text ns vs
 
--- that of what is found, with the values after so many rounds; rounds above 1,000 count as 1,000
-abbrev pub drafted_in : Kept → ZoneGraph → ℕ → List ℕ
-drafted_in m g rounds = draft_text g.nodes (values_of m.index m.edges g.nodes g.codes g.ends g.count (min rounds 1000)) g.codes g.ends g.count
+-- the draft of them
+unfoldable pub draft_text : List Node → List ℕ → List ℕ
+draft_text nodes vs = word 7 whole ∷ (nodes_text nodes vs ++ (word 12 0 ∷ []))
 
--- a list with ws in place of what stands from `at` on
-abbrev pub written : List ℕ → ℕ → List ℕ → List ℕ
-written before at ws = take at before ++ (ws ++ drop (at + length ws) before)
+-- that with the values after so many rounds; rounds above 1,000 count as 1,000
+abbrev pub drafted_in : IndexedModel → List Node → ℕ → List ℕ
+drafted_in m nodes rounds = draft_text nodes (values_of m nodes (min rounds 1000))
 
--- the length of the draft of so many nodes, whatever their values
-pub record LengthOf (nodes codes ends : List ℕ) (count n : ℕ) : Type 0 where
-  pub is : (vs : List ℕ) → n ≡ length (draft_text nodes vs codes ends count)
+-- how many words a node has
+abbrev pub node_size : Node → ℕ
+node_size n = length n.front.bounds.items + 2 + length n.rows.items
+
+-- how many words nodes have
+abbrev pub nodes_size : List Node → ℕ
+nodes_size = sum_by node_size
 
 -- 60 at the end
 unfoldable pub last_answer : ℕ → List ℕ → Answer (List ℕ)
 last_answer room words = cond (leb (length words) room) (accepted words) (refused 60 0)
-
--- ---- what it asks
-
--- the stores hold so many nodes, and the codes of each end where they begin or later
-pub record Finishes (nodes codes ends : List ℕ) (count : ℕ) : Type 0 where
-  pub holds : Holds nodes count
-  pub fits : EndsFit codes ends
-  pub rises : (n : ℕ) → n < count → begin_of ends n ≤ get_or ends n 0
-
--- with values
-pub record TextFits (nodes vs codes ends : List ℕ) (count : ℕ) : Type 0 where
-  pub stores : Finishes nodes codes ends count
-  pub values : ValuesFit vs
-
--- of the node n alone
-pub record NodeFits (nodes vs codes ends : List ℕ) (n : ℕ) : Type 0 where
-  pub few : n < 64
-  pub node : HasNode nodes n
-  pub fits : EndsFit codes ends
-  pub rises : begin_of ends n ≤ get_or ends n 0
-  pub values : ValuesFit vs

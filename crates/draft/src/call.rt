@@ -1,66 +1,67 @@
 // The call that drafts a table for a model.
-ghost use Rattle.std.specs.Prelude.{◌≡◌, min, length};
+ghost use Rattle.std.specs.Prelude.{◌≡◌, ℕ, List, length};
+ghost use Rattle.answers.specs.Checks.{accepted};
 ghost use Rattle.answers.specs.Refusals.{answer_of};
+ghost use Rattle.model.specs.Reading.{ReadModel};
+ghost use Rattle.model.specs.Indexed.{KeptFor};
 ghost use Rattle.drafting.specs.Drafting.{length_of, lent_after, Drafted, CertifiesWritten};
-ghost use Rattle.draft.specs.Asked.{RoundsAsked, Located};
-ghost use Rattle.draft.specs.Nodes.{fronts_of};
-ghost use Rattle.draft.specs.Exploration.{kept_of};
-ghost use Rattle.draft.specs.Writing.{drafted_in, last_answer, Finishes};
+ghost use Rattle.draft.specs.Writing.{drafted_in, last_answer};
 
-use crate::explore::{CODES, Source, ZoneGraph};
-use crate::nodes::NODE_WORDS;
-use crate::{rounds, write};
+use crate::explored::Explored;
+use crate::graph::ZoneGraph;
+use crate::source::Source;
 use answers::{Reason, Refusal};
-use model::{places, read as models};
-use zone::zones::Zone;
+use arrayvec::ArrayVec;
+use model::index::IndexedModel;
+use model::read::{ModelRead, index_model};
 
 // The draft of what is found, put into the lent words if they are enough. Rounds above 1,000 count as 1,000.
-pub(crate) fn finish(
-    source: &Source,
-    graph: &ZoneGraph,
-    rounds: u64,
-    lent: &mut [u32],
-) -> Result<usize, Refusal>
-    requires { RoundsAsked source.now.index.now source.now.edges.now × Located source.now.index.now.locations (fronts_of graph.now.nodes graph.now.count) × Finishes graph.now.nodes graph.now.codes graph.now.ends graph.now.count }
-    ensures answers { answer_of result ≡ length_of (last_answer (length lent.old) (drafted_in (kept_of source.now) graph.now rounds)) }
-    ensures writes { lent.new ≡ lent_after (last_answer (length lent.old) (drafted_in (kept_of source.now) graph.now rounds)) lent.old }
+pub(crate) fn finish(explored: &Explored, rounds: u64, lent: &mut [u32]) -> Result<usize, Refusal>
+    ensures answers { answer_of result ≡ length_of (last_answer (length lent.old) (drafted_in explored.now.source.model.now explored.now.nodes.now rounds)) }
+    ensures writes { lent.new ≡ lent_after (last_answer (length lent.old) (drafted_in explored.now.source.model.now explored.now.nodes.now rounds)) lent.old }
 {
-    let length = write::draft_length(graph);
+    let length = explored.draft_length();
     if lent.len() < length {
         return Err(Reason::TooFewWords.at(0));
     }
-    let values = rounds::values_after(source, graph, rounds.min(1000));
-    write::write_draft(lent, graph, &values.list);
+    let values = explored.values_after(rounds.min(1000));
+    explored.write_draft(lent, length, &values);
     Ok(length)
+}
+
+// The draft of a model that was read. It stands apart from `draft` so that a model that is refused fills no nodes.
+// kept: rounds and lent words are what a caller hands over; a struct of them would be made and taken apart once.
+pub(crate) fn drafted(
+    source: &Source,
+    read: ModelRead,
+    rounds: u64,
+    lent: &mut [u32],
+) -> Result<usize, Refusal>
+    ensures drafts { (words : List ℕ) → ReadModel words (accepted read.counts) → KeptFor words read source.now.model.now → Drafted words rounds lent.old (answer_of result) lent.new }
+    ensures certifies { (words : List ℕ) → ReadModel words (accepted read.counts) → KeptFor words read source.now.model.now → CertifiesWritten words (answer_of result) lent.new }
+{
+    let mut graph = ZoneGraph {
+        nodes: ArrayVec::new(),
+    };
+    graph
+        .explore(source, read.initial)
+        .map_err(|reason| reason.at(0))?;
+    let explored = Explored {
+        source: *source,
+        nodes: &graph.nodes,
+    };
+    finish(&explored, rounds, lent)
 }
 
 /// Drafts a table for a model into the lent words, with values after so many rounds: the length of the draft. A refusal leaves the words as they are;
 /// those of the model have its place.
+// kept: a length beside the lent words: the call from C hands it on, and the words are the caller's.
 pub fn draft(model: &[u32], rounds: u64, lent: &mut [u32]) -> Result<usize, Refusal>
     ensures drafts { Drafted model.now rounds lent.old (answer_of result) lent.new }
     ensures certifies { CertifiesWritten model.now (answer_of result) lent.new }
 {
-    let mut edges = [0u32; places::EDGES];
-    let mut zones = [Zone::universe(); places::ZONES];
-    let model_read = models::index_model(model, &mut edges, &mut zones)?;
-    let index = model_read.index;
-    let source = Source {
-        index: &index,
-        edges: &edges,
-        zones: &zones,
-    };
-    let mut graph = ZoneGraph {
-        nodes: [0u32; NODE_WORDS],
-        codes: [0u8; CODES],
-        ends: [0usize; 64],
-        count: 0,
-        used: 0,
-    };
-    if let Err(reason) = graph.start(&index, model_read.initial) {
-        return Err(reason.at(0));
-    }
-    if let Err(reason) = graph.explore(&source) {
-        return Err(reason.at(0));
-    }
-    finish(&source, &graph, rounds, lent)
+    let mut indexed = IndexedModel::EMPTY;
+    let read = index_model(model, &mut indexed)?;
+    let source = Source { model: &indexed };
+    drafted(&source, read, rounds, lent)
 }

@@ -1,52 +1,29 @@
 // Exploring forward: nodes in order of discovery, then by action and edge.
-ghost use Rattle.std.specs.Prelude.{◌≡◌, ◌+◌, ◌-◌, ◌≤◌, ◌<◌, [], get_or, OnOk};
-ghost use Rattle.zone.specs.Squares.{Tightens, inside?};
+ghost use Rattle.std.specs.Prelude.{◌≡◌, ◌+◌, ◌≤◌, ◌<◌, [], length, get_or, OnOk};
+ghost use Rattle.zone.specs.Squares.{Tightens};
 ghost use Rattle.model.specs.Fields.{lands_at};
-ghost use Rattle.table.specs.Scan.{edges_at};
-ghost use Rattle.draft.specs.Fronts.{Clocks};
-ghost use Rattle.draft.specs.Nodes.{fronts_of, Holds};
-ghost use Rattle.draft.specs.Exploration.{kept_of, graph_of, found_of, explored_of, code_of, landed_square, with_successor, successors_from, with_row, rows_from, with_node};
-ghost use Rattle.draft.specs.Exploration.{nodes_from, start_graph};
-ghost use Rattle.draft.specs.Asked.{ActionAsked, ModelAsked, Located, Roomy, Grown, EndsFit};
-ghost use Rattle.draft.specs.Writing.{Finishes};
+ghost use Rattle.draft.specs.Nodes.{Keeps, fronts_of, placing_of, no_node};
+ghost use Rattle.draft.specs.Exploration.{graph, progress_of, coded_of, explored_of, code_of, with_successor, with_row, rows_at, with_node};
+ghost use Rattle.draft.specs.Exploration.{nodes_from, explored_from};
+ghost use Rattle.draft.specs.Asked.{ActionAsked, Located};
 
-use crate::{fronts, nodes};
+use crate::graph::ZoneGraph;
+use crate::source::Source;
 use answers::Reason;
+use arrayvec::ArrayVec;
 use judge::reaching;
 use model::fields;
-use model::index::Index;
 use model::places::GUARDS;
 use zone::zones::Zone;
 
-// How many codes there is room for: 128 to each of 64 nodes and, so that a row can be read from any place, 128 more.
-pub(crate) const CODES: usize = 8320;
-
 // The code of an A word. That of a B word is the number of its node, with OUTSIDE more where its edge can land outside.
-// kept: a code is the number of its value in the sum, so that an enum would only be turned into that number at each edge of each round.
+// kept: a code is a number, that of its value in the sum, since an enum would only be turned into that number at each edge of each round.
 pub(crate) const BLOCKED: u8 = 255;
 
 pub(crate) const OUTSIDE: usize = 64;
 
-// What is kept of a model, as exploring and the rounds read it.
-#[derive(Clone, Copy)]
-pub(crate) struct Source<'a> {
-    pub index: &'a Index,
-    pub edges: &'a [u32],
-    pub zones: &'a [Zone],
-}
-
-// What is found of the zone graph: so many nodes as `count`, their rows in so many codes as `used`, and where the codes of each node explored end.
-// Arrays with counts beside them: no call uses the heap.
-#[derive(Drop)]
-pub(crate) struct ZoneGraph {
-    pub nodes: [u32; 1728],
-    pub codes: [u8; 8320],
-    pub ends: [usize; 64],
-    pub count: usize,
-    pub used: usize,
-}
-
 // The code of a B word.
+// kept: `number < 64`, as `small` in graph.rt.
 pub(crate) fn code_of(number: usize, outside: bool) -> u8
     requires { number < 64 }
     ensures { result ≡ code_of number outside }
@@ -57,122 +34,110 @@ pub(crate) fn code_of(number: usize, outside: bool) -> u8
     number as u8
 }
 
-// What lands inside the invariant of an edge's location; `inside` says whether all of it does.
-pub(crate) fn landed(landings: Zone, invariant: Zone, inside: bool) -> Zone
-    requires { Tightens 1 landings × Tightens 1 invariant × (inside ≡ inside? landings invariant) }
-    ensures { result ≡ landed_square landings invariant }
-{
-    if inside {
-        return landings;
-    }
-    reaching::common(landings, invariant)
-}
-
+// kept: `Tightens`, as in zone: the sizes of bounds are no invariant of a zone, since each tightening lets them double.
 impl ZoneGraph {
-    // With the successor of an edge, from a reach that is not empty: its zone is the smallest that holds the landings inside.
-    pub(crate) fn successor(&mut self, source: &Source, reach: Zone, e: usize) -> Result<(), Reason>
-        requires { ModelAsked (kept_of source.now) × Tightens 1 reach × (e < 128) × (lands_at (get_or source.now.edges.now e 0) < source.now.index.now.locations) × Roomy self.old 1 }
-        ensures grows { OnOk result (Grown self.old self.new 1) }
-        ensures finds { found_of result self.new ≡ with_successor (kept_of source.now) reach (get_or source.now.edges.now e 0) (graph_of self.old) }
-    {
-        let edge = source.edges[e];
-        let to = fields::lands_at(edge);
-        let landings = reach.reset(fields::mask_of(edge));
-        let invariant = source.zones[to as usize];
-        let inside = landings.inside(invariant);
-        let front = fronts::front_of(to, source.index.clocks, landed(landings, invariant, inside));
-        let placed = nodes::place(&mut self.nodes, self.count, &front)?;
-        self.codes[self.used] = code_of(placed.number, !inside);
-        self.count = placed.count;
-        self.used += 1;
-        Ok(())
-    }
-
-    // With the successors of an action's edges, from a reach that is not empty.
-    pub(crate) fn successors(
+    // The code of an edge, from a reach that is not empty. The zone of its successor is the smallest that holds the landings inside.
+    pub(crate) fn successor(
         &mut self,
         source: &Source,
         reach: Zone,
+        edge: u32,
+    ) -> Result<u8, Reason>
+        requires { Tightens 1 reach × (lands_at edge < source.now.model.now.index.locations) }
+        ensures keeps { OnOk result (Keeps self.old.nodes.items self.new.nodes.items) }
+        ensures finds { placing_of result self.new.nodes.items ≡ with_successor source.now.model.now reach edge (fronts_of self.old.nodes.items) }
+    {
+        let to = fields::lands_at(edge);
+        let landings = reach.reset(fields::mask_of(edge));
+        let invariant = source.model.zones[to as usize];
+        let inside = landings.inside(invariant);
+        let landed = if inside {
+            landings
+        } else {
+            reaching::common(landings, invariant)
+        };
+        let front = source.front(to, landed);
+        let number = self.place(front)?;
+        Ok(code_of(number, !inside))
+    }
+
+    // Adds the row of an action to the rows: one A word where its reach is empty. Waiting attains `waited`.
+    pub(crate) fn row(
+        &mut self,
+        source: &Source,
+        waited: Zone,
         a: usize,
+        rows: &mut ArrayVec<u8, 128>,
     ) -> Result<(), Reason>
-        requires { ModelAsked (kept_of source.now) × Tightens 1 reach × (a < 32) × ActionAsked (kept_of source.now) a × Roomy self.old 4 }
-        ensures grows { OnOk result (Grown self.old self.new 4) }
-        ensures finds { found_of result self.new ≡ successors_from (kept_of source.now) reach (edges_at source.now.index.now a) (get_or source.now.index.now.edges a 0) (graph_of self.old) }
+        requires { ActionAsked source.now.model.now a × Tightens 2 waited × (length rows.old.items + 4 ≤ 128) }
+        ensures keeps { OnOk result (Keeps self.old.nodes.items self.new.nodes.items) }
+        ensures grows { OnOk result (length rows.new.items ≤ length rows.old.items + 4) }
+        ensures finds { progress_of result self.new.nodes.items rows.new.items ≡ with_row source.now.model.now waited a (graph (fronts_of self.old.nodes.items) rows.old.items) }
     {
-        for e in source.index.edges[a] as usize..source.index.edges[a + 1] as usize {
-            self.successor(source, reach, e)?;
-        }
-        Ok(())
-    }
-
-    // With the row of an action: one A word where its reach is empty. Waiting attains `waited`.
-    pub(crate) fn row(&mut self, source: &Source, waited: Zone, a: usize) -> Result<(), Reason>
-        requires { ModelAsked (kept_of source.now) × Tightens 2 waited × (a < 32) × ActionAsked (kept_of source.now) a × Roomy self.old 4 }
-        ensures grows { OnOk result (Grown self.old self.new 4) }
-        ensures finds { found_of result self.new ≡ with_row (kept_of source.now) waited a (graph_of self.old) }
-    {
-        let reach = reaching::common(waited, source.zones[GUARDS + a]);
+        let reach = reaching::common(waited, source.model.zones[GUARDS + a]);
         if reach.is_empty() {
-            self.codes[self.used] = BLOCKED;
-            self.used += 1;
+            rows.push(BLOCKED);
             return Ok(());
         }
-        self.successors(source, reach, a)
-    }
-
-    // With the rows of a location's actions.
-    pub(crate) fn rows(&mut self, source: &Source, waited: Zone, l: usize) -> Result<(), Reason>
-        requires { ModelAsked (kept_of source.now) × Tightens 2 waited × (l < source.now.index.now.locations) × Roomy self.old 128 }
-        ensures grows { OnOk result (Grown self.old self.new 128) }
-        ensures finds { found_of result self.new ≡ rows_from (kept_of source.now) waited (get_or source.now.index.now.actions (l + 1) 0 - get_or source.now.index.now.actions l 0) (get_or source.now.index.now.actions l 0) (graph_of self.old) }
-    {
-        for a in source.index.actions[l] as usize..source.index.actions[l + 1] as usize {
-            self.row(source, waited, a)?;
+        for &edge in source.edges_of(a) {
+            let code = self.successor(source, reach, edge)?;
+            rows.push(code);
         }
         Ok(())
     }
 
-    // With the rows of the node n; a target has none.
-    pub(crate) fn explore_node(&mut self, source: &Source, n: usize) -> Result<(), Reason>
-        requires { ModelAsked (kept_of source.now) × (n < self.old.count) × Located source.now.index.now.locations (fronts_of self.old.nodes self.old.count) × Roomy self.old 128 }
-        ensures grows { OnOk result (Grown self.old self.new 128) }
-        ensures finds { found_of result self.new ≡ with_node (kept_of source.now) n (graph_of self.old) }
+    // The rows of a location's actions.
+    pub(crate) fn rows(
+        &mut self,
+        source: &Source,
+        waited: Zone,
+        l: usize,
+    ) -> Result<ArrayVec<u8, 128>, Reason>
+        requires { Tightens 2 waited × (l < source.now.model.now.index.locations) }
+        ensures keeps { OnOk result (Keeps self.old.nodes.items self.new.nodes.items) }
+        ensures finds { coded_of result self.new.nodes.items ≡ rows_at source.now.model.now waited l (fronts_of self.old.nodes.items) }
     {
-        let l = nodes::location_at(&self.nodes, n) as usize;
-        if source.index.targets[l] {
-            return Ok(());
+        let mut rows = ArrayVec::new();
+        for a in source.model.index.actions_of(l) {
+            self.row(source, waited, a, &mut rows)?;
         }
-        let zone = nodes::zone_at(&self.nodes, n, source.index.clocks);
-        let waited = reaching::waited(zone, source.zones[l]);
+        Ok(rows)
+    }
+
+    // The rows of the node n; a target has none.
+    pub(crate) fn explore_node(
+        &mut self,
+        source: &Source,
+        n: usize,
+    ) -> Result<ArrayVec<u8, 128>, Reason>
+        requires { (n < length self.old.nodes.items) × Located source.now.model.now.index.locations self.old.nodes.items }
+        ensures keeps { OnOk result (Keeps self.old.nodes.items self.new.nodes.items) }
+        ensures finds { coded_of result self.new.nodes.items ≡ with_node source.now.model.now (get_or self.old.nodes.items n no_node).front (fronts_of self.old.nodes.items) }
+    {
+        let front = &self.nodes[n].front;
+        let l = front.location as usize;
+        if source.model.index.targets[l] {
+            return Ok(ArrayVec::new());
+        }
+        let waited = reaching::waited(source.zone(front), source.model.zones[l]);
         self.rows(source, waited, l)
     }
 
-    // Explores the nodes, from the start node on, as far as there are nodes.
-    pub(crate) fn explore(&mut self, source: &Source) -> Result<(), Reason>
-        requires { ModelAsked (kept_of source.now) × Located source.now.index.now.locations (fronts_of self.old.nodes self.old.count) × Holds self.old.nodes self.old.count × (self.old.used ≡ 0) × EndsFit self.old.codes self.old.ends }
-        ensures finds { explored_of result self.new ≡ nodes_from (kept_of source.now) 64 0 [] (graph_of self.old) }
-        ensures finishes { OnOk result (Located source.now.index.now.locations (fronts_of self.new.nodes self.new.count) × Finishes self.new.nodes self.new.codes self.new.ends self.new.count) }
+    // Explores the nodes, from the start node on, as far as there are nodes; `initial` are the start valuations.
+    pub(crate) fn explore(&mut self, source: &Source, initial: Zone) -> Result<(), Reason>
+        requires { self.old.nodes.items ≡ [] }
+        ensures finds { explored_of result self.new.nodes.items ≡ explored_from source.now.model.now initial }
+        ensures located { OnOk result (Located source.now.model.now.index.locations self.new.nodes.items) }
     {
+        let front = source.front(source.model.index.start, initial);
+        self.place(front)?;
+        // kept: exploring a node adds others behind it, so no iterator goes over the nodes
         for n in 0..64 {
-            if self.count <= n {
+            if self.nodes.len() <= n {
                 return Ok(());
             }
-            self.explore_node(source, n)?;
-            self.ends[n] = self.used;
+            self.nodes[n].rows = self.explore_node(source, n)?;
         }
-        Ok(())
-    }
-
-    // The start node.
-    pub(crate) fn start(&mut self, index: &Index, initial: Zone) -> Result<(), Reason>
-        requires { Holds self.old.nodes 0 × (index.now.start < 16) × Clocks index.now.clocks × (self.old.used ≡ 0) }
-        ensures holds { OnOk result (Holds self.new.nodes self.new.count) }
-        ensures keeps { OnOk result ((self.new.codes ≡ self.old.codes) × (self.new.ends ≡ self.old.ends) × (self.new.used ≡ 0)) }
-        ensures finds { found_of result self.new ≡ start_graph index.now initial }
-    {
-        let front = fronts::front_of(index.start, index.clocks, initial);
-        let placed = nodes::place(&mut self.nodes, 0, &front)?;
-        self.count = placed.count;
         Ok(())
     }
 }

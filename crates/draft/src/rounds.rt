@@ -1,124 +1,94 @@
 // The values of a draft, round by round, from the codes of its rows.
-ghost use Rattle.std.specs.Prelude.{◌≡◌, ◌+◌, ◌-◌, ◌*◌, ◌≤◌, ◌<◌, get_or, length};
+ghost use Rattle.std.specs.Prelude.{◌≡◌, ◌*◌, ◌≤◌, ◌<◌, length};
 ghost use Rattle.drafting.specs.Rounds.{rounded_up};
 ghost use Rattle.drafting.specs.Words.{whole};
-ghost use Rattle.draft.specs.Nodes.{fronts_of, Holds};
-ghost use Rattle.draft.specs.Asked.{weights_from, RoundsAsked, Located, ValuesFit, EndsFit, Rounded};
-ghost use Rattle.draft.specs.Values.{sum_from, largest_from, begin_of, round_below, values_of};
+ghost use Rattle.draft.specs.Asked.{weights_of};
+ghost use Rattle.draft.specs.Values.{sum_of, largest_at, round_of, values_of, Rounded};
 
-use crate::explore::{Source, ZoneGraph};
-use crate::{explore, nodes};
+use crate::explore::BLOCKED;
+use crate::explored::Explored;
+use crate::source::Source;
+use crate::values::{Values, WHOLE};
 use judge::landing;
 
-// V.
-pub(crate) const WHOLE: u32 = 1_000_000;
-
-// How many values there are: one for each node, and from 64 on V, for the edges that can land outside.
-pub(crate) const VALUES: usize = 128;
-
-// The values, by the numbers that codes have.
-#[derive(Clone, Copy)]
-pub(crate) struct Values {
-    pub list: [u32; 128],
-}
-
 // A sum over D, rounded up.
+#[tactic(auto, using(crate::proofs::RoundCode::ceil_whole))]
 pub(crate) fn rounded_up(sum: u64, denominator: u32) -> u32
     requires { (1 ≤ denominator) × (sum ≤ denominator * whole) }
     ensures { (result ≡ rounded_up sum denominator) × (result ≤ whole) }
 {
-    let d = denominator as u64;
-    ((sum + (d - 1)) / d) as u32
+    sum.div_ceil(u64::from(denominator)) as u32
 }
 
-// The judge's sum of a row: of its edges from `first` up to `end`, whose codes begin at `at`.
-pub(crate) fn row_sum(
-    edges: &[u32],
-    codes: &[u8],
-    values: &[u32],
-    first: usize,
-    end: usize,
-    at: usize,
-) -> u64
-    requires { (end ≤ length edges.now) × (end - first ≤ 4) × (at + 4 ≤ length codes.now) × ValuesFit values.now }
-    ensures { (result ≡ sum_from edges.now codes.now values.now (end - first) first at) × (result ≤ weights_from edges.now (end - first) first * whole) }
+// The judge's sum of a row, of its edges with their codes.
+pub(crate) fn row_sum(edges: &[u32], codes: &[u8], values: &Values) -> u64
+    requires { length edges.now ≤ 4 }
+    ensures { (result ≡ sum_of values.now.list edges.now codes.now) × (result ≤ weights_of edges.now * whole) }
 {
     let mut sum: u64 = 0;
-    for e in first..end {
-        let v = codes[at + (e - first)] as usize % VALUES;
-        sum += landing::share(edges[e], values[v]);
+    for (&edge, &code) in edges.iter().zip(codes) {
+        sum += landing::share(edge, values.of(code));
     }
     sum
 }
 
-// The largest, over the rows of a location, of the judge's sum over D, rounded up; 0 without rows that have successors. Their codes begin at `at`.
-pub(crate) fn largest(source: &Source, codes: &[u8], values: &[u32], l: usize, at: usize) -> u32
-    requires { RoundsAsked source.now.index.now source.now.edges.now × (l < source.now.index.now.locations) × (at + 128 ≤ length codes.now) × ValuesFit values.now }
-    ensures { (result ≡ largest_from source.now.edges.now codes.now values.now source.now.index.now (get_or source.now.index.now.actions (l + 1) 0 - get_or source.now.index.now.actions l 0) (get_or source.now.index.now.actions l 0) at 0) × (result ≤ whole) }
+// The largest, over the rows of a location, of the judge's sum over D, rounded up; 0 without rows that have successors. The codes of a node found are
+// enough for all rows; that they are is not asked here, so the rows end where they are too few.
+pub(crate) fn largest(source: &Source, l: usize, codes: &[u8], values: &Values) -> u32
+    requires { l < source.now.model.now.index.locations }
+    ensures { (result ≡ largest_at values.now.list source.now.model.now l codes.now) × (result ≤ whole) }
 {
     let mut best: u32 = 0;
-    let mut code = at;
-    for a in source.index.actions[l] as usize..source.index.actions[l + 1] as usize {
-        if codes[code] == explore::BLOCKED {
-            code += 1;
+    let mut rest = codes;
+    for a in source.model.index.actions_of(l) {
+        if let [BLOCKED, behind @ ..] = rest {
+            rest = behind;
         } else {
-            let first = source.index.edges[a] as usize;
-            let end = source.index.edges[a + 1] as usize;
-            let sum = row_sum(source.edges, codes, values, first, end, code);
-            best = best.max(rounded_up(sum, source.index.denominator));
-            code += end - first;
+            let edges = source.edges_of(a);
+            let Some((row, behind)) = rest.split_at_checked(edges.len()) else {
+                return best;
+            };
+            let sum = row_sum(edges, row, values);
+            best = best.max(rounded_up(sum, source.model.index.denominator));
+            rest = behind;
         }
     }
     best
 }
 
-// Where the codes of a node begin.
-#[tactic(auto, using(crate::proofs::RoundCode::begin_later), unfolding(crate::specs::Values::begin_of))]
-pub(crate) fn begin_of(ends: &[usize], n: usize) -> usize
-    requires { n ≤ length ends.now }
-    ensures { result ≡ begin_of ends.now n }
-{
-    if n == 0 {
-        return 0;
-    }
-    ends[n - 1]
-}
-
-// A round: the values of all nodes but targets are replaced together. There are none where it changes no value.
-pub(crate) fn round(source: &Source, graph: &ZoneGraph, values: &Values) -> Option<Values>
-    requires { RoundsAsked source.now.index.now source.now.edges.now × Holds graph.now.nodes graph.now.count × Located source.now.index.now.locations (fronts_of graph.now.nodes graph.now.count) × EndsFit graph.now.codes graph.now.ends × ValuesFit values.now.list }
-    ensures { Rounded result values.now.list (round_below source.now.index.now source.now.edges.now graph.now.nodes graph.now.codes graph.now.ends graph.now.count values.now.list) }
-{
-    let old = &values.list;
-    let mut list = values.list;
-    let mut changed = false;
-    for n in 0..graph.count {
-        let l = nodes::location_at(&graph.nodes, n) as usize;
-        if !source.index.targets[l] {
-            let at = begin_of(&graph.ends, n);
-            let v = largest(source, &graph.codes, old, l, at);
-            if v != old[n] {
-                list[n] = v;
-                changed = true;
+impl Explored<'_> {
+    // A round: the values of all nodes but targets are replaced together. There are none where it changes no value.
+    pub(crate) fn round(&self, values: &Values) -> Option<Values>
+        ensures { Rounded result values.now.list (round_of self.now.source.model.now self.now.nodes.now values.now.list) }
+    {
+        let mut list = values.list;
+        // kept: a flag, set on the way: comparing both lists behind the loop would go over 256 values once more in each round
+        let mut changed = false;
+        // kept: of values that an adapter of `iter_mut` has gone over, a proof knows nothing, so they are put by number
+        for (n, node) in self.nodes.iter().enumerate() {
+            let l = node.front.location as usize;
+            if !self.source.model.index.targets[l] {
+                let v = largest(&self.source, l, &node.rows, values);
+                if v != values.list[n] {
+                    list[n] = v;
+                    changed = true;
+                }
             }
         }
+        if changed { Some(Values { list }) } else { None }
     }
-    if changed { Some(Values { list }) } else { None }
-}
 
-// The values after so many rounds; every one begins at V. Behind a round that changes none, no later one does.
-pub(crate) fn values_after(source: &Source, graph: &ZoneGraph, rounds: u64) -> Values
-    requires { RoundsAsked source.now.index.now source.now.edges.now × Holds graph.now.nodes graph.now.count × Located source.now.index.now.locations (fronts_of graph.now.nodes graph.now.count) × EndsFit graph.now.codes graph.now.ends }
-    ensures { (result.list ≡ values_of source.now.index.now source.now.edges.now graph.now.nodes graph.now.codes graph.now.ends graph.now.count rounds) × ValuesFit result.list }
-{
-    let mut values = Values {
-        list: [WHOLE; VALUES],
-    };
-    for _n in 0..rounds {
-        let Some(next) = round(source, graph, &values) else {
-            return values;
-        };
-        values = next;
+    // The values after so many rounds; every one begins at V. Behind a round that changes none, no later one does.
+    pub(crate) fn values_after(&self, rounds: u64) -> Values
+        ensures { result.list ≡ values_of self.now.source.model.now self.now.nodes.now rounds }
+    {
+        let mut values = Values { list: [WHOLE; 256] };
+        for _n in 0..rounds {
+            let Some(next) = self.round(&values) else {
+                return values;
+            };
+            values = next;
+        }
+        values
     }
-    values
 }

@@ -1,10 +1,11 @@
 -- The program that drafts, from the bytes that it reads to the draft and its answer. Assumes nothing.
-use Rattle.std.specs.Prelude.{ℕ, ◌<◌, ◌≤◌, ◌%◌, ◌≡◌, Bool, true, false, List, length, get_or, take, drop, Option, IfSome}
-use Rattle.std.specs.Io.KnownBytes.{Keeps, Appends}
+use Rattle.std.specs.Prelude.{ℕ, ◌<◌, ◌≤◌, ◌%◌, ◌≡◌, Bool, List, length, get_or, take, drop, Option}
+use Rattle.std.specs.Io.KnownBytes.{Appends}
 use Rattle.answers.specs.Checks.{Answer, refused, accepted}
 use Rattle.judge_line.specs.Bytes.{words_of}
 use Rattle.judge_line.specs.Text.{line_of}
 use Rattle.drafting.specs.Drafting.{Drafted}
+use Rattle.input.specs.Answering.{Answers as OfInput}
 use Rattle.draft_cli.specs.Text.{lines_of}
 
 -- what the program answers to the bytes that it reads, with the words lent for the table before and after. Before anything is read as words, 42: over
@@ -20,18 +21,15 @@ abbrev pub printed : Answer ℕ → List ℕ → List ℕ
 printed (refused number place) table = line_of (refused number place)
 printed (accepted n) table = lines_of (take n table)
 
--- the answer to some bytes was printed; they are the whole input where its bytes are known, and as many words were lent as the longest draft has
-pub record Draft (input before after : Option (List ℕ)) : Type 0 where
-  pub bytes : List ℕ
+-- the answer to some bytes was printed; as many words were lent for the table as the longest draft has
+pub record Draft (bytes : List ℕ) (before after : Option (List ℕ)) : Type 0 where
   pub lent : List ℕ
   pub answer : Answer ℕ
   pub table : List ℕ
-  pub whole : IfSome input (λ xs. xs ≡ bytes)
   pub many : length lent ≡ 9602
   pub drafts : DraftsInput bytes lent answer table
   pub writes : Appends before after (printed answer table)
 
--- the output before and after: an answer more or, where the input could not be read to its end, nothing
+-- the output before and after: the answer to the whole input more or, where the input could not be read to its end, nothing
 abbrev pub Answers : Option (List ℕ) → Bool → Option (List ℕ) → Option (List ℕ) → Type 0
-Answers input true before after = Draft input before after
-Answers input false before after = Keeps before after
+Answers = OfInput Draft

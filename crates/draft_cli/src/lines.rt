@@ -1,43 +1,27 @@
 // Words as lines of text: eight hex digits each, in capitals.
-ghost use Rattle.std.specs.Prelude.{◌≡◌, ◌<◌, ◌≤◌, length, take, map};
-ghost use Rattle.draft_cli.specs.Text.{hex_digit, word_line};
-
-/// The digit of a number below 16.
-pub(crate) fn hex_digit(d: u32) -> u8
-    requires { d < 16 }
-    ensures { result ≡ hex_digit d }
-{
-    if d < 10 {
-        b'0' + d as u8
-    } else {
-        b'A' + (d - 10) as u8
-    }
-}
+ghost use Rattle.std.specs.Prelude.{◌≡◌, ◌≤◌, length};
+ghost use Rattle.draft_cli.specs.Text.{word_line, lines_of};
 
 /// The line of a word.
-// kept: no plainer, since a line is an array of nine bytes, so that all lines are written at once; a formatter would fill a text to be copied into it
+#[tactic(auto, using(crate::proofs::LineLaws::word_digits))]
 pub(crate) fn word_line(word: u32) -> [u8; 9]
     ensures { result ≡ word_line word }
 {
-    [
-        hex_digit(word / 0x1000_0000),
-        hex_digit(word / 0x100_0000 % 16),
-        hex_digit(word / 0x10_0000 % 16),
-        hex_digit(word / 0x1_0000 % 16),
-        hex_digit(word / 0x1000 % 16),
-        hex_digit(word / 0x100 % 16),
-        hex_digit(word / 0x10 % 16),
-        hex_digit(word % 16),
-        b'\n',
-    ]
+    let mut line = [b'\n'; 9];
+    // it has the room that it needs, so that it succeeds
+    let _ = hex::encode_to_slice(word.to_be_bytes(), &mut line[..8]);
+    line.make_ascii_uppercase();
+    line
 }
 
-/// Puts the lines of words into the first cells of a slice.
-pub(crate) fn to_lines(words: &[u32], lines: &mut [[u8; 9]])
+/// The text of words, in the first cells of a slice of lines.
+pub(crate) fn text_of<'a>(words: &[u32], lines: &'a mut [[u8; 9]]) -> &'a [u8]
     requires { length words.now ≤ length lines.old }
-    ensures { take (length words.now) lines.new ≡ map word_line words.now }
+    ensures { result.now ≡ lines_of words.now }
 {
+    // kept: by number, since nothing is known of what a `zip` with `iter_mut` leaves
     for (k, word) in words.iter().enumerate() {
         lines[k] = word_line(*word);
     }
+    lines[..words.len()].as_flattened()
 }

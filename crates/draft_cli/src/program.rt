@@ -1,19 +1,17 @@
 // From the bytes of the input to the draft.
-ghost use Rattle.std.specs.Prelude.{◌≡◌, get_or, drop};
+ghost use Rattle.std.specs.Prelude.{◌≡◌, ◌≤◌, length, get_or, drop, IfOk};
 ghost use Rattle.answers.specs.Refusals.{answer_of};
 ghost use Rattle.draft_cli.specs.Program.{DraftsInput};
 
-use answers::{Reason, Refusal};
+use answers::Refusal;
 use draft::call;
+use judge_line::program::{MOST_WORDS, READ_BYTES};
 use judge_line::words;
 
-// The most bytes that the program takes, the rounds' four and a model's 65,536; how many words they are, and how many bytes to read so that a longer
-// input shows.
-const MOST_BYTES: usize = 65540;
+// What the program takes is a word more than that which judges, the number of rounds.
+const ASKED_WORDS: usize = 1 + MOST_WORDS;
 
-const MOST_WORDS: usize = MOST_BYTES / 4;
-
-pub(crate) const READ_BYTES: usize = MOST_BYTES + 1;
+pub(crate) const ASKED_BYTES: usize = 4 + READ_BYTES;
 
 // The longest table that can be drafted (`draft-few` of `drafting`): 64 nodes, each with its word, 20 bounds, its value and rows of 128 words, and two
 // words around them.
@@ -34,18 +32,11 @@ pub(crate) fn model_of(list: &[u32]) -> &[u32]
 }
 
 /// The length of the draft that the input asks for, in the lent words: 42 and 41 before anything is read as words.
-#[tactic(auto, using(crate::proofs::ProgramLaws::input_42, crate::proofs::ProgramLaws::input_41))]
 pub(crate) fn drafted(bytes: &[u8], lent: &mut [u32]) -> Result<usize, Refusal>
-    ensures { DraftsInput bytes.now lent.old (answer_of result) lent.new }
+    ensures drafts { DraftsInput bytes.now lent.old (answer_of result) lent.new }
+    ensures fits { IfOk result (λ n. n ≤ length lent.new) }
 {
-    if MOST_BYTES < bytes.len() {
-        return Err(Reason::TooLong.at(0));
-    }
-    if bytes.len() % 4 != 0 {
-        return Err(Reason::NotWords.at(0));
-    }
-    let mut space = [0u32; MOST_WORDS];
-    words::to_words(bytes, &mut space);
-    let list = &space[..bytes.len() / 4];
+    let mut space = [0u32; ASKED_WORDS];
+    let list = words::words_in(bytes, &mut space)?;
     call::draft(model_of(list), rounds_of(list), lent)
 }

@@ -1,6 +1,6 @@
 -- No draft has more than 9,602 words, and where as many are lent 60 is not given. Assumes nothing.
 use Prim.Native.Nat.{ℕ, zero, suc, ◌*◌, ◌≤◌, ◌<◌, zero-le}
-use mathlib.Core.Path.{◌≡◌, sym, ◌∙◌}
+use mathlib.Core.Path.{◌≡◌}
 use mathlib.Core.Logic.{inl, inr}
 use mathlib.Core.Bool.{Bool, true, false, cond}
 use mathlib.Core.List.{List, [], ◌∷◌, ◌++◌, map}
@@ -13,7 +13,7 @@ use Rattle.model.specs.Model.{Edge, Action, Model, model_of}
 use Rattle.model.specs.States.{location_at}
 use Rattle.model.specs.Reading.{word_checks, words_checks, edge_checks, model_checks, counts_of, ReadModel}
 use Rattle.model.specs.declared.read.Counts.{Counts}
-use Rattle.model.proofs.Entries.{no_words, no_keys, zeros-fit}
+use Rattle.model.proofs.Entries.{empty_model, sized-empty}
 use Rattle.model.proofs.IndexLaws.{location-at}
 use Rattle.model.proofs.Indexing.{indexed}
 use Rattle.model.proofs.ZoneLaws.{All, more}
@@ -100,7 +100,7 @@ module _ (model : List ℕ) (counts : Counts) (reads : ReadModel model (accepted
   actions-few : (l : ℕ) → l < length M.locations → length (row_actions (location_at M l)) ≤ 32
   unfolding row_actions
   actions-few l h =
-      let at = location-at (indexed model no_words no_keys zeros-fit (accepted-runs model counts reads)) l h in
+      let at = location-at (indexed model empty_model sized-empty (accepted-runs model counts reads)) l h in
       by (location_at M l).target (omega (arith, at.ends, at.limit))
     where
       by : (c : Bool) → length (location_at M l).actions ≤ 32 → length (cond c [] (location_at M l).actions) ≤ 32

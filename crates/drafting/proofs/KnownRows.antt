@@ -12,10 +12,10 @@ use Rattle.answers.specs.Checks.{accepted}
 use Rattle.model.specs.Model.{Edge, Action, Location, Model, model_of}
 use Rattle.model.specs.States.{location_at}
 use Rattle.model.specs.Reading.{ReadModel}
-use Rattle.model.specs.Index.{Kept}
+use Rattle.model.specs.declared.index.IndexedModel.{IndexedModel}
 use Rattle.model.specs.Indexed.{Each, Indexed}
 use Rattle.model.specs.declared.read.Counts.{Counts}
-use Rattle.model.proofs.Entries.{no_words, no_keys, zeros-fit}
+use Rattle.model.proofs.Entries.{empty_model, sized-empty}
 use Rattle.model.proofs.Indexing.{indexed}
 use Rattle.model.proofs.ZoneLaws.{All, empty, more, GoodBound, GoodZone}
 use Rattle.model.proofs.GoodModel.{GoodModel}
@@ -55,7 +55,7 @@ fit-good C few (b ∷ Z) f =
     let one : GoodBound b = record { first = omega arith; second = omega arith; small = omega arith } in
     more one (fit-good C few Z f.1)
 
-module _ (M : Model) (m : Kept) (x : Indexed M m) (good : GoodModel M) (formed : WellFormed M) (found : List Found) where
+module _ (M : Model) (m : IndexedModel) (x : Indexed M m) (good : GoodModel M) (formed : WellFormed M) (found : List Found) where
   share-of : (F : Found) (A : Action) (e : Edge) (n : ℕ) → Known M (as_node F) A e → (s : Share) × ShareIs M F A e n s
   share-of F A e n (inl o) = (record { weight = e.weight; node = n; outside = true }, record { weight = refl; node = refl; outside = o })
   share-of F A e n (inr i) = (record { weight = e.weight; node = n; outside = false }, record { weight = refl; node = refl; outside = i })
@@ -121,8 +121,8 @@ module _ (model : List ℕ) (counts : Counts) (reads : ReadModel model (accepted
 
   pub all-valued : (Fs : List Found) (rows : List (List FoundRow)) → AllFound M Fs rows → (qs : List Valued) × ValuedAll M Fs rows qs
   all-valued Fs rows f =
-      nodes-of M _ (indexed model no_words no_keys zeros-fit (accepted-runs model counts reads)) (accepted-good model counts reads)
+      nodes-of M _ (indexed model empty_model sized-empty (accepted-runs model counts reads)) (accepted-good model counts reads)
       (accepted-formed model counts reads) Fs Fs f.ready.all rows f.each
 
   pub few-locations : length M.locations ≤ 16
-  few-locations = let x = indexed model no_words no_keys zeros-fit (accepted-runs model counts reads) in omega (arith, x.limit, x.locations)
+  few-locations = let x = indexed model empty_model sized-empty (accepted-runs model counts reads) in omega (arith, x.limit, x.locations)

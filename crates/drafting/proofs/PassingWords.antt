@@ -12,7 +12,8 @@ use Rattle.zone.specs.Scale.{Zone}
 use Rattle.zone.specs.Words.{bits, kind, bound_fields?, good_bound?}
 use Rattle.zone.proofs.Bools.{and, right_true}
 use Rattle.answers.proofs.CheckLaws.{AllHold, all_join}
-use Rattle.model.specs.TableKinds.{TableKind, table_head, node, node_bound, value, blocked, successor, start_node}
+use Rattle.model.specs.declared.table_kinds.TableKind.{TableKind}
+use Rattle.model.specs.declared.table_kinds.TableKind.TheVariants.{Head as table_head, Node as node, Bound as node_bound, Value as value, Blocked as blocked, Successor as successor, StartNode as start_node}
 use Rattle.model.specs.TableKinds.{table_number, is_table, table_kind_of}
 use Rattle.model.specs.Before.{opener_from, count_of}
 use Rattle.model.specs.Grammar.{table_follows, numbered?, may_follow?, table_follows?}
@@ -22,7 +23,7 @@ use Rattle.table.specs.Fields.{location_of, number_of, fields?}
 use Rattle.table.specs.Table.{row_actions, Table, table_of}
 use Rattle.table.specs.Reading.{last_location, Due, none_due, edge_counts, all_due, due_after_row, due_after_successor, due_with, due}
 use Rattle.table.specs.Reading.{none?, rows_allow?, limit?, word_checks, words_checks, number_checks, read_checks}
-use Rattle.table.proofs.KindLaws.{kind-is}
+use Rattle.model.proofs.TableKindLaws.{kind-is}
 use Rattle.table.proofs.ReadLaws.{opener_with, location_with, opener_with_lem, location_with_lem, due_with_lem, counted}
 use Rattle.drafting.specs.Exploring.{Found, FoundRow, to_nodes}
 use Rattle.drafting.specs.Exploring as exploring
@@ -98,7 +99,7 @@ module _ (M : Model) where
   module _ (clocks : M.clocks ≤ 4) where
     bounds-pass : (Z : Zone) → AllFit M.clocks Z → (rest : List ℕ) {l c : ℕ} (before : List ℕ) → At M before 8 l none_due c →
         ((after : List ℕ) → At M after 8 l none_due c → Holds after rest) → Holds before (map bound_word Z ++ rest)
-    unfolding good_bound? fields? rows_allow? limit? due_with
+    unfolding good_bound? rows_allow? due_with
     bounds-pass [] h rest before at go = go before at
     bounds-pass (b ∷ Z) h rest {l} {c} before at go =
         pass at (bound_word b) node_bound (bound-kind M.clocks clocks b h.0) (map bound_word Z ++ rest) follows-head.2 tt
@@ -124,7 +125,7 @@ module _ (M : Model) where
         (ms : List ℕ) →
         b + length ns ≡ m → RowOpener o → At M before o l (rows_due t (m ∷ ms) b) c →
         ((after : List ℕ) → At M after 11 l (rows_due t ms 0) c → Holds after rest) → Holds before (map (word 11) ns ++ rest)
-    unfolding fields? rows_allow? limit? due_with due_after_successor due_after_row
+    unfolding rows_allow? due_with due_after_successor due_after_row
     numbers-pass [] h some rest before b m ms e op at go = absurd (N.not-suc-le-zero some)
     numbers-pass (n ∷ []) h some rest {o} {l} {c} {t} before b m ms e op at go =
         pass at (word 11 n) successor (kind-of n h.0) rest op.successor tt (number-fields n h.0) tt
@@ -152,7 +153,7 @@ module _ (M : Model) where
         RowOpener o → At M before o l (rows_due t (edge_counts As) 0) c →
         ((after : List ℕ) (o' : ℕ) → RowOpener o' → At M after o' l (rows_due t [] 0) c → Holds after rest) →
         Holds before (rows_words rs ++ rest)
-    unfolding rows_words row_words edge_counts fields? rows_allow? limit? due_with due_after_row
+    unfolding rows_words row_words edge_counts rows_allow? due_with due_after_row
     rows_pass [] [] h rest {o} before op at go = go before o op at
     rows_pass [] (r ∷ rs) h rest before op at go = absurd h
     rows_pass (A ∷ As) [] h rest before op at go = absurd h
@@ -176,7 +177,7 @@ module _ (M : Model) where
           ((after : List ℕ) (o' : ℕ) → RowOpener o' → At M after o' F.location (rows_due (location_at M F.location).target [] 0) (suc c) →
           Holds after rest) →
           Holds before (node_words F v rs ++ rest)
-      unfolding node_words front_words fields? rows_allow? limit? due_with all_due
+      unfolding node_words front_words rows_allow? due_with all_due
       node-pass F v rs h rest {o} {l} {c} {d} before f none less at go =
           pass at w₈ node k₈ _ f none
           (and (eqb (bits 23 0 w₈) 0) (ltb (location_of w₈) (length M.locations)) (T_of _ (eq-eqb _ 0 fields₈.1))
@@ -225,7 +226,7 @@ module _ (M : Model) where
       -- all words: 7, one node or more, C
       words-pass : (F : Found) (Fs : List Found) (v : ℕ) (vs : List ℕ) (rs : List FoundRow) (rows : List (List FoundRow)) →
           NodesFit M count (F ∷ Fs) (v ∷ vs) (rs ∷ rows) → suc (length Fs) ≤ 64 → Holds [] (words_of (F ∷ Fs) (v ∷ vs) (rs ∷ rows))
-      unfolding words_of nodes_words fields? rows_allow? limit? due_with words_checks opener_from last_location due count_of
+      unfolding words_of nodes_words rows_allow? due_with words_checks opener_from last_location due count_of
       words-pass F Fs v vs rs rows h less =
           pass first (word 7 whole) table_head refl (nodes_words (F ∷ Fs) (v ∷ vs) (rs ∷ rows) ++ (word 12 0 ∷ [])) follows-head.0 tt tt tt
           (subst (Holds (word 7 whole ∷ [])) (sym (append_assoc (node_words F v rs) (nodes_words Fs vs rows) (word 12 0 ∷ [])))

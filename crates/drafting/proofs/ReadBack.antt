@@ -11,7 +11,9 @@ use lib.ListN.{get_or, length, drop, length-map}
 use lib.Seq.{drop-append_seam, drop_at, get_or-append_seam}
 use Rattle.zone.specs.Scale.{Zone}
 use Rattle.zone.specs.Words.{kind}
-use Rattle.model.specs.TableKinds.{TableKind, node, node_bound, start_node, cut, table_number, is_table}
+use Rattle.model.specs.declared.table_kinds.TableKind.{TableKind}
+use Rattle.model.specs.declared.table_kinds.TableKind.TheVariants.{Node as node, Bound as node_bound, StartNode as start_node, Cut as cut}
+use Rattle.model.specs.TableKinds.{table_number, is_table}
 use Rattle.model.specs.Before.{index_of}
 use Rattle.model.specs.Model.{Action, Location, Model}
 use Rattle.model.specs.States.{location_at}

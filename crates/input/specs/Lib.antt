@@ -1,2 +1,3 @@
--- The definition that the contract of `input` rests on: what a read of a whole input did.
+-- The definitions that the contracts of `input` and of the programs rest on: what is said of a whole input, then what a read of one did.
+pub mod Answering
 pub mod Reading

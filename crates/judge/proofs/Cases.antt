@@ -18,17 +18,14 @@ use Rattle.zone.proofs.Cases.{zone-cases}
 use Rattle.model.specs.Kinds.{among, kind_of}
 use Rattle.model.specs.TableKinds.{table_kind_of}
 use Rattle.model.specs.Grammar.{follows, table_follows, numbered?, may_follow?, follows?, table_follows?}
-use Rattle.model.specs.Fields.{fields?}
-use Rattle.model.specs.Reading.{limit?, adds?}
-use Rattle.model.specs.Scan.{fields_at?, limit_at?, adds_at?, checked, checked_end, seen_with_kind, seen_with}
-use Rattle.model.specs.Index.{kept_with_kind, kept_with, closed, unless_refused, pass_end, scan_from, scanned}
-use Rattle.model.specs.Index.{first_missing, missing_of, start_square, whole_read, read_behind}
-use Rattle.table.specs.Fields as fields
-use Rattle.table.specs.Reading as reading
+use Rattle.model.specs.Scan.{checked, checked_end, seen_with_kind, seen_with}
+use Rattle.model.proofs.Answering.{read_behind}
+use Rattle.model.specs.Index.{kept_with_kind, kept_with, closed, scanned, missing_of, start_square, whole_read}
 use Rattle.table.specs.Scan as scan
 use Rattle.table.specs.Index as index
+use Rattle.pass.specs.Steps as pass
 use Rattle.acceptance.specs.Judging.{Judged}
-use Rattle.judge.specs.Reaching.{common, waited_square, contained_below}
+use Rattle.judge.specs.Reaching.{common, waited_square}
 use Rattle.judge.specs.Landing.{landings_share, successor_share}
 use Rattle.judge.specs.Steps.{and_then}
 use Rattle.judge.specs.Cutting.{part_checked, cut_checked}
@@ -36,7 +33,7 @@ use Rattle.judge.specs.Walk.{successors_from, rows_from, rows_checked, node_chec
 use Rattle.judge.specs.Deciding.{start_verdict}
 use Rattle.acceptance.specs.declared.certificate.Certificate.{Certificate}
 use Rattle.acceptance.proofs.CountLaws.{timeline, closing}
-use Rattle.judge.proofs.Computing.{judged, judged_behind, judged_from, computed, computes}
+use Rattle.judge.proofs.Computing.{judged, computed, computes}
 
 -- T; M is `timeline`
 abbrev table : List ℕ
@@ -97,14 +94,13 @@ answers :
     (answer_of (computed (set closing 8 0x51001001) blocked_table) ≡ refused 16 4)
 unfolding
     masked? bound_of bound_fields? tighter? tighter_of sum negative? list_of with_bound passed_below source all? empty? inside?
-    among kind_of table_kind_of follows table_follows numbered? may_follow? follows? table_follows? fields? limit? adds? fields_at? limit_at?
-    adds_at? checked checked_end seen_with_kind seen_with kept_with_kind kept_with closed unless_refused pass_end scan_from scanned first_missing missing_of start_square
-    whole_read read_behind fields.fields? reading.limit? scan.rows_allow_kind? scan.rows_allow_at? scan.fields_at? scan.limit_at? scan.checked
+    among kind_of table_kind_of follows table_follows numbered? may_follow? follows? table_follows?
+    checked checked_end seen_with_kind seen_with kept_with_kind kept_with closed scanned missing_of start_square
+    whole_read read_behind scan.checked
     scan.checked_end scan.first_row scan.end_row scan.rows_at scan.edges_at scan.row_size scan.size_at scan.seen_with_kind scan.seen_with
-    index.kept_with_kind index.kept_with index.unless_refused index.scan_from index.scanned index.unless_missing index.read_of common waited_square
-    contained_below landings_share successor_share and_then successors_from rows_from rows_checked negated with_word
-    holding_square rest_square part_checked cut_checked node_checked nodes_from start_verdict answer_of number
-    judged judged_behind judged_from computed
+    index.kept_with_kind index.kept_with index.scanned index.unless_missing index.and_numbers index.read_of pass.unless_refused pass.pass_end
+    pass.pass_from common waited_square landings_share successor_share and_then successors_from rows_from rows_checked negated with_word
+    holding_square rest_square part_checked cut_checked node_checked nodes_from start_verdict answer_of number judged computed
 answers = (
   refl,
   refl,

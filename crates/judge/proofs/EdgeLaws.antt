@@ -1,14 +1,13 @@
 -- What an edge with its successor comes to: the walk decides 17 and 18, and what it adds is what the edge has in the sum of 19. Assumes nothing.
 use Prim.Native.Nat.{ℕ, ◌*◌, ◌<◌}
 use Rattle.std.specs.Prelude.{Result, Ok}
-use mathlib.Core.Path.{◌≡◌, refl, ap, ◌∙◌}
+use mathlib.Core.Path.{◌≡◌, refl, ap}
 use mathlib.Core.Logic.{inl, inr}
-use mathlib.Core.Bool.{Bool, true, false, cond, ◌&&◌, ◌||◌}
+use mathlib.Core.Bool.{Bool, true, false, cond, ◌||◌}
 use mathlib.Core.List.{List, [], ◌∷◌}
-use native.Mathlib.Omega.{arith}
 use borrow.Author.Tests.{eqb-true, eqb-false}
 use lib.Dec.{eqb}
-use lib.ListN.{get_or, length}
+use lib.ListN.{length}
 use Rattle.zone.specs.Scale.{Zone, within, Inside}
 use Rattle.answers.specs.Checks.{Check, check}
 use Rattle.answers.specs.Refusals.{number, answer_of}
@@ -17,38 +16,32 @@ use Rattle.answers.specs.declared.Refusal.{Refusal}
 use Rattle.zone.specs.Squares.{universe, reset_square, empty?, inside?}
 use Rattle.zone.specs.Stores.{zone_at}
 use Rattle.zone.specs.declared.zones.Zone.{Zone as Square}
-use Rattle.zone.proofs.Spans.{spans, inside-yes}
 use Rattle.model.specs.Fields.{mask_of, lands_at, weight_of}
 use Rattle.model.specs.Model.{Edge, Action, Model, edge_of}
 use Rattle.model.specs.States.{location_at}
-use Rattle.model.specs.Index.{Kept as ModelKept}
+use Rattle.model.specs.declared.index.IndexedModel.{IndexedModel}
 use Rattle.model.specs.Indexed.{with_bounds, Indexed}
-use Rattle.model.proofs.ZoneLaws.{GoodZone, stands-bounds}
+use Rattle.model.proofs.ZoneLaws.{GoodZone}
 use Rattle.model.proofs.GoodModel.{GoodModel}
 use Rattle.model.proofs.WellFormed.{FormedEdge}
 use Rattle.model.proofs.IndexLaws.{location-at}
 use Rattle.table.specs.Table.{Successor, Node, Table, node_at}
-use Rattle.table.specs.Index.{Kept}
+use Rattle.table.specs.declared.nodes.IndexedTable.{IndexedTable}
 use Rattle.table.specs.Indexed.{TableIndexed}
-use Rattle.table.specs.declared.read.TableRead.{TableRead}
 use Rattle.table.proofs.Shape.{Shaped}
 use Rattle.acceptance.specs.Acceptance.{HasLocation, landings, landings_inside, HoldsLandings, CanLandOutside, Worth}
 use Rattle.acceptance.proofs.SumLaws.{inside_cannot}
-use Rattle.judge.specs.Reaching.{common, contained_below}
+use Rattle.judge.specs.Reaching.{common}
 use Rattle.answers.specs.Refusals.{refuse}
 use Rattle.judge.specs.Landing.{landings_share, successor_share}
 use Rattle.judge.proofs.StepLaws.{Comes}
 use Rattle.judge.proofs.RowLaws.{node_at_lem, shaped-at}
-use Rattle.judge.proofs.LandingLaws.{contained_at}
 use Rattle.judge.proofs.RowReach.{Reached}
 use Rattle.judge.proofs.OutsideLaws.{nowhere, somewhere}
+use Rattle.judge.proofs.ContainedLaws.{inside-onward}
 
-module _ (M : Model) (words : List ℕ) (m : ModelKept) (t : TableRead) (k : Kept) (x : Indexed M m) (good : GoodModel M) (W : Table)
-    (i : TableIndexed W t k) (sh : Shaped M words W) where
-  -- of each node, whether its zone lies within the invariant of its location by its bounds
-  abbrev pub contained : List Bool
-  contained = contained_below k m.zones t.count
-
+module _ (M : Model) (words : List ℕ) (m : IndexedModel) (k : IndexedTable) (x : Indexed M m) (good : GoodModel M) (W : Table)
+    (i : TableIndexed W k) (sh : Shaped M words W) where
   -- ---- the successors of a row
   module _ (N : Node) (A : Action) (reach : Square) (z : Reached M N A reach) where
     -- the checks of an edge with its successor, 17 and 18
@@ -130,59 +123,37 @@ module _ (M : Model) (words : List ℕ) (m : ModelKept) (t : TableRead) (k : Kep
                   let b = z.onward-fail filled E.mask zone good-zone h in
                   b.fails (m.at b.scale b.positive b.valuation (b.holds, all.at b.scale b.positive b.valuation b.holds)))
 
-            -- the successor's zone lies within the invariant, and holds the landings
-            zone-within : inside? landed zone_table ≡ true → inside? zone_table invariant_table ≡ true → Inside (landings M N A E) (within invariant)
-            zone-within h i = record {
-              at = λ k k₁ v r.
-                  (inside-yes (spans (stands-bounds zone good-zone)) (stands-bounds invariant good-invariant) i).at k k₁ v
-                  ((z.onward-pass filled E.mask zone good-zone h).at k k₁ v r);
-            }
+            -- where the successor's zone holds the landings and lies within the invariant, no landing is outside: for the reader; the walk goes by tables
+            -- (`contained_within`)
+            pub zone-within : inside? landed zone_table ≡ true → inside? zone_table invariant_table ≡ true → Inside (landings M N A E) (within invariant)
+            zone-within h i = z.onward-pass filled E.mask invariant good-invariant (inside-onward landed zone_table invariant_table h i)
 
             -- some landing is outside
             module _ (can : CanLandOutside M N A E) where
               abbrev part : Square
               part = common landed invariant_table
 
-              part_held : (empty? part || inside? part zone_table) ≡ true → Lands E S (Ok (E.weight * t.whole))
+              part_held : (empty? part || inside? part zone_table) ≡ true → Lands E S (Ok (E.weight * k.whole))
               unfolding landings_inside
-              part_held h = holds t.whole ((z.part filled E.mask invariant good-invariant).pass zone good-zone h) (inl (can, i.whole))
+              part_held h = holds k.whole ((z.part filled E.mask invariant good-invariant).pass zone good-zone h) (inl (can, i.whole))
 
               part-not-held : (empty? part || inside? part zone_table) ≡ false → Lands E S (refuse reason.NotInside p)
               unfolding landings_inside
               part-not-held h = holds_not ((z.part filled E.mask invariant good-invariant).fail zone good-zone h)
 
-        -- the flag that the code keeps of the successor
-        contained-is : (node_at W s).location ≡ E.to → get_or contained s false ≡ inside? zone_table invariant_table
-        contained-is at =
-            let there : s < t.count = omega (arith, l, i.count) in
-            contained_at k m.zones t.count s there i.limit ∙ rw ((node_at_lem i s l).zone, (node_at_lem i s l).location, at, table_is) refl
-
         -- by whether every landing is inside
-        rest : (at : (node_at W s).location ≡ E.to) → empty? reach ≡ false → (h j q : Bool) → inside? landed zone_table ≡ h →
+        by_landings : (at : (node_at W s).location ≡ E.to) → empty? reach ≡ false → (h j q : Bool) → inside? landed zone_table ≡ h →
             inside? landed invariant_table ≡ j → (empty? (common landed invariant_table) || inside? (common landed invariant_table) zone_table) ≡ q →
             Lands E S
             (cond j
             (cond h (Ok (E.weight * (node_at W s).value)) (refuse reason.NotInside p))
-            (cond q (Ok (E.weight * t.whole)) (refuse reason.NotInside p)))
-        rest at e true true q eh ej eq = inside-held at e (z.onward-pass e E.mask invariant good-invariant ej) eh
-        rest at e false true q eh ej eq = inside-not-held at e (z.onward-pass e E.mask invariant good-invariant ej) eh
-        rest at e h false true eh ej eq = part_held at e (somewhere good z E e ej) eq
-        rest at e h false false eh ej eq = part-not-held at e (somewhere good z E e ej) eq
+            (cond q (Ok (E.weight * k.whole)) (refuse reason.NotInside p)))
+        by_landings at e true true q eh ej eq = inside-held at e (z.onward-pass e E.mask invariant good-invariant ej) eh
+        by_landings at e false true q eh ej eq = inside-not-held at e (z.onward-pass e E.mask invariant good-invariant ej) eh
+        by_landings at e h false true eh ej eq = part_held at e (somewhere good z E e ej) eq
+        by_landings at e h false false eh ej eq = part-not-held at e (somewhere good z E e ej) eq
 
-        by_tests : (at : (node_at W s).location ≡ E.to) → empty? reach ≡ false → (h c j q : Bool) → inside? landed zone_table ≡ h →
-            inside? zone_table invariant_table ≡ c → inside? landed invariant_table ≡ j →
-            (empty? (common landed invariant_table) || inside? (common landed invariant_table) zone_table) ≡ q →
-            Lands E S
-            (cond (c && h) (Ok (E.weight * (node_at W s).value))
-            (cond j
-            (cond h (Ok (E.weight * (node_at W s).value)) (refuse reason.NotInside p))
-            (cond q (Ok (E.weight * t.whole)) (refuse reason.NotInside p))))
-        by_tests at e true true j q eh ec ej eq = inside-held at e (zone-within at e eh ec) eh
-        by_tests at e true false j q eh ec ej eq = rest at e true j q eh ej eq
-        by_tests at e false true j q eh ec ej eq = rest at e false j q eh ej eq
-        by_tests at e false false j q eh ec ej eq = rest at e false j q eh ej eq
-
-        pub comes : (w : ℕ) → edge_of w ≡ E → Lands E S (successor_share reach (empty? reach) w m.zones contained t.whole k s p)
+        pub comes : (w : ℕ) → edge_of w ≡ E → Lands E S (successor_share m k reach w s p)
         unfolding successor_share landings_share
         comes w e =
             let to : lands_at w ≡ E.to = ap (λ (E : Edge). E.to) e in
@@ -195,15 +166,11 @@ module _ (M : Model) (words : List ℕ) (m : ModelKept) (t : TableRead) (k : Kep
                 Lands E S
                 (cond c
                 (cond d (Ok (E.weight * (node_at W s).value))
-                (cond (get_or contained s false && inside? landed zone_table) (Ok (E.weight * (node_at W s).value))
                 (cond (inside? landed invariant_table)
-                (cond (inside? landed zone_table) (Ok (E.weight * (node_at W s).value))
-                (refuse reason.NotInside p))
+                (cond (inside? landed zone_table) (Ok (E.weight * (node_at W s).value)) (refuse reason.NotInside p))
                 (cond (empty? (common landed invariant_table) || inside? (common landed invariant_table) zone_table)
-                (Ok (E.weight * t.whole)) (refuse reason.NotInside p)))))
+                (Ok (E.weight * k.whole)) (refuse reason.NotInside p))))
                 (refuse reason.WrongLocation p))
             by true q true e = nothing-lands (eqb-true _ _ q) e
-            by true q false e =
-                let at : (node_at W s).location ≡ E.to = eqb-true _ _ q in
-                rw (contained-is at) (by_tests at e _ _ _ _ refl refl refl refl)
+            by true q false e = by_landings (eqb-true _ _ q) e _ _ _ refl refl refl
             by false q d e = wrong_location (eqb-false _ _ q)

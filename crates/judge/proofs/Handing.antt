@@ -13,7 +13,6 @@ use Rattle.model.specs.Reading.{model_checks, counts_of, ReadModel}
 use Rattle.model.specs.declared.read.Counts.{Counts}
 use Rattle.table.specs.Table.{Table, table_of}
 use Rattle.table.specs.Reading.{read_checks}
-use Rattle.table.specs.declared.read.TableRead.{TableRead}
 use Rattle.acceptance.specs.Judging.{nodes_checks, start_checks, table_checks, judge_checks, certificate_of, Judged}
 use Rattle.acceptance.specs.declared.certificate.Certificate.{Certificate}
 
@@ -36,12 +35,12 @@ module _ (words list : List ℕ) where
 
   module _ (model-holds : AllHold (model_checks words)) where
     -- 11 to 14
-    pub words-handed : (r : Refusal) → First (read_checks M list) (λ (t : TableRead). Unit {0}) (answer_of (Err r)) → Judged words list (answer_of (Err r))
+    pub words-handed : (r : Refusal) → First (read_checks M list) (λ (_ : Unit {0}). Unit {0}) (answer_of (Err r)) → Judged words list (answer_of (Err r))
     unfolding judge_checks
     words-handed r reads = record {
       says =
           first-join (model_checks words) (read_checks M list ++ table_checks M W) Right (answer_of (Err r)) model-holds
-          (refusals.handed (read_checks M list) (table_checks M W) (λ (t : TableRead). Unit {0}) Right r reads);
+          (refusals.handed (read_checks M list) (table_checks M W) (λ (_ : Unit {0}). Unit {0}) Right r reads);
     }
 
     module _ (words-hold : AllHold (read_checks M list)) where

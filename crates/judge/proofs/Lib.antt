@@ -6,7 +6,7 @@ pub mod RowReach
 pub mod OutsideLaws
 pub mod ReachSizes
 pub mod RowLaws
-pub mod LandingLaws
+pub mod ContainedLaws
 pub mod EdgeLaws
 pub mod WalkLaws
 pub mod Walking

@@ -23,3 +23,7 @@ common-tightens {y} {z} s t = tightens-less 1 (met y z) (omega arith) (small-met
 
 pub reset-tightens : (n mask : ℕ) {y r : Square} → r ≡ reset_square mask y → Tightens n y → Tightens n r
 reset-tightens n mask {y} e s = rw e (small-reset y s mask)
+
+-- landings, and the invariant that they are met with
+pub landings_tighten : (mask : ℕ) (y r : Square) → r ≡ reset_square mask y → Tightens 1 y → Tightens 1 r
+landings_tighten mask y r e s = reset-tightens 1 mask e s

@@ -8,7 +8,7 @@ use lib.ListN.{get_or, length, drop}
 use lib.Seq.{get_or-drop, drop-drop}
 use Rattle.model.specs.Model.{Action, Model}
 use Rattle.model.specs.States.{location_at}
-use Rattle.model.specs.Index.{Kept as ModelKept}
+use Rattle.model.specs.declared.index.IndexedModel.{IndexedModel}
 use Rattle.model.specs.Indexed.{Each, ActionAt, Indexed}
 use Rattle.model.proofs.ZoneLaws.{All, empty, more}
 use Rattle.model.proofs.GoodModel.{GoodAction, GoodModel}
@@ -16,9 +16,8 @@ use Rattle.model.proofs.WellFormed.{FormedAction, WellFormed}
 use Rattle.model.proofs.IndexLaws.{each_at, location-at}
 use Rattle.table.specs.Scan.{edges_at}
 use Rattle.table.specs.Table.{Table, no_node, node_at}
-use Rattle.table.specs.Index.{Kept}
+use Rattle.table.specs.declared.nodes.IndexedTable.{IndexedTable}
 use Rattle.table.specs.Indexed.{NodeIs, TableIndexed}
-use Rattle.table.specs.declared.read.TableRead.{TableRead}
 use Rattle.table.proofs.Shape.{NodeShaped, Shaped}
 
 -- ---- the words from a place on
@@ -41,10 +40,10 @@ all-below d i empty l = absurd (omega arith)
 all-below d zero (more p ps) l = p
 all-below d (suc i) (more p ps) l = all-below d i ps (omega arith)
 
-pub node_at_lem : {W : Table} {t : TableRead} {k : Kept} → TableIndexed W t k → (s : ℕ) → s < length W.nodes → NodeIs k s (node_at W s)
+pub node_at_lem : {W : Table} {k : IndexedTable} → TableIndexed W k → (s : ℕ) → s < length W.nodes → NodeIs k.nodes s (node_at W s)
 unfolding node_at
-node_at_lem {W} {t} {k} i s l =
-    subst (λ (n : ℕ). NodeIs k n (get_or W.nodes s no_node)) (zero-add s) (each_at (NodeIs k) 0 W.nodes no_node i.each s l)
+node_at_lem {W} {k} i s l =
+    subst (λ (n : ℕ). NodeIs k.nodes n (get_or W.nodes s no_node)) (zero-add s) (each_at (NodeIs k.nodes) 0 W.nodes no_node i.each s l)
 
 pub shaped-at : {M : Model} {words : List ℕ} {W : Table} → Shaped M words W → (s : ℕ) → s < length W.nodes → NodeShaped M W words (node_at W s)
 unfolding node_at
@@ -53,12 +52,12 @@ shaped-at sh s l = all-below no_node s sh.nodes l
 -- ---- the actions
 
 -- an action with its number, and what holds of it in an accepted model
-pub record ActionIs (M : Model) (m : ModelKept) (a : ℕ) (A : Action) : Type 0 where
+pub record ActionIs (M : Model) (m : IndexedModel) (a : ℕ) (A : Action) : Type 0 where
   pub at : ActionAt m a A
   pub good : GoodAction A
   pub formed : FormedAction M A
 
-module _ (M : Model) (m : ModelKept) (x : Indexed M m) (good : GoodModel M) (formed : WellFormed M) where
+module _ (M : Model) (m : IndexedModel) (x : Indexed M m) (good : GoodModel M) (formed : WellFormed M) where
   actions-from : (As : List Action) (a : ℕ) → Each (ActionAt m) a As → All GoodAction As → All (FormedAction M) As → Each (ActionIs M m) a As
   unfolding Each
   actions-from [] a e empty empty = tt
@@ -76,6 +75,6 @@ module _ (M : Model) (m : ModelKept) (x : Indexed M m) (good : GoodModel M) (for
       let ends = (location-at x l h).ends in
       rw e (omega (arith, ends))
 
-pub edges-at : {m : ModelKept} {a : ℕ} {A : Action} → ActionAt m a A → edges_at m.index a ≡ length A.edges
+pub edges-at : {m : IndexedModel} {a : ℕ} {A : Action} → ActionAt m a A → edges_at m.index a ≡ length A.edges
 unfolding edges_at
 edges-at {a = a} x = let e : a + 1 ≡ suc a = omega arith in rw e (omega (arith, x.ends))

@@ -20,7 +20,7 @@ use Rattle.zone.proofs.Attained.{Attained, between, spans-attained, spans-reset,
 use Rattle.model.specs.Scan.{guards_at}
 use Rattle.model.specs.Model.{Action, Model}
 use Rattle.model.specs.States.{State, location_at}
-use Rattle.model.specs.Index.{Kept}
+use Rattle.model.specs.declared.index.IndexedModel.{IndexedModel}
 use Rattle.model.specs.Indexed.{with_bounds, ActionAt, Indexed}
 use Rattle.model.proofs.ZoneLaws.{GoodZone, stands-bounds, tightens-bounds}
 use Rattle.model.proofs.GoodModel.{GoodAction, GoodModel}
@@ -58,7 +58,7 @@ pub record Reached (M : Model) (N : Node) (A : Action) (z : Square) : Type 0 whe
   pub part : empty? z ≡ false → (mask : ℕ) (S : Zone) → GoodZone S →
       Decides (in_both (ResetOf mask (Reach M N A)) (within S)) (common (reset_square mask z) (with_bounds S universe))
 
-module _ {M : Model} {m : Kept} (x : Indexed M m) (good : GoodModel M) (N : Node) (l : N.location < length M.locations) (z : GoodZone N.zone)
+module _ {M : Model} {m : IndexedModel} (x : Indexed M m) (good : GoodModel M) (N : Node) (l : N.location < length M.locations) (z : GoodZone N.zone)
     {a : ℕ} {A : Action} (i : ActionAt m a A) (g : GoodAction A) where
   abbrev invariant : Zone
   invariant = (location_at M N.location).invariant

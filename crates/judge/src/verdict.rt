@@ -1,37 +1,40 @@
 // The call that judges a table against a model.
-ghost use Rattle.std.specs.Prelude.{◌≡◌};
+ghost use Rattle.std.specs.Prelude.{◌≡◌, ◌<◌};
 ghost use Rattle.answers.specs.Refusals.{answer_of};
 ghost use Rattle.acceptance.specs.Judging.{Judged, Exactly, BoundsSchedulers};
-ghost use Rattle.judge.specs.Deciding.{start_verdict};
+ghost use Rattle.judge.specs.Looking.{start_of};
 
 use crate::judging::Judging;
 use crate::reaching;
 use acceptance::certificate::Certificate;
 use answers::{Reason, Refusal};
-use model::{places, read as models};
-use table::nodes::NodeEntry;
-use table::read as tables;
+use model::index::IndexedModel;
+use model::read::{ModelRead, index_model};
+use table::nodes::IndexedTable;
+use table::read::index_table;
 use zone::zones::Zone;
 
-/// The last checks: the start node, at a place, has the start location, and its zone holds the start valuations.
-#[tactic(auto, using(std::proofs::lemmas::Bool::Decides::nat_tests), unfolding(crate::specs::Deciding::start_verdict))]
-pub(crate) fn start_verdict(
-    start: u32,
-    initial: Zone,
-    node: NodeEntry,
-    zone: Zone,
-    place: usize,
-    certificate: Certificate,
-) -> Result<Certificate, Refusal>
-    ensures { result ≡ start_verdict start initial node zone place certificate }
-{
-    if node.location != start {
-        return Err(Reason::WrongStart.at(place));
+impl Judging<'_> {
+    /// The last checks: the start node has the start location, and its zone holds the start valuations, whose zone is `initial`. Then the table
+    /// certifies the start node's value, of V.
+    #[tactic(auto, using(std::proofs::lemmas::Bool::Decides::nat_tests), unfolding(crate::specs::Deciding::start_verdict))]
+    pub(crate) fn start(&self, initial: Zone) -> Result<Certificate, Refusal>
+        requires { self.now.table.now.start < 64 }
+        ensures { result ≡ start_of self.now initial }
+    {
+        let node = &self.table.nodes[self.table.start as usize];
+        if node.location != self.model.index.start as usize {
+            return Err(Reason::WrongStart.at(self.table.place));
+        }
+        if !initial.inside(node.zone) {
+            return Err(Reason::StartNotInside.at(self.table.place));
+        }
+        Ok(Certificate {
+            b: node.value,
+            whole: self.table.whole,
+            nodes: self.table.count,
+        })
     }
-    if initial.inside(zone) {
-        return Ok(certificate);
-    }
-    Err(Reason::StartNotInside.at(place))
 }
 
 /// Judges a table against a model: what it certifies, or the model's refusal first, then that of the table's words, of its nodes, and of its start
@@ -41,42 +44,21 @@ pub fn judge(model: &[u32], table: &[u32]) -> Result<Certificate, Refusal>
     ensures exactly { Exactly model.now table.now (answer_of result) }
     ensures bounds { BoundsSchedulers model.now (answer_of result) }
 {
-    let mut edges = [0u32; places::EDGES];
-    let mut guards = [Zone::universe(); places::ZONES];
-    let model_read = models::index_model(model, &mut edges, &mut guards);
-    let Ok(model_read) = model_read else {
-        return Err(model_read.unwrap_err());
+    let mut indexed_model = IndexedModel::EMPTY;
+    let read = index_model(model, &mut indexed_model);
+    // kept: `let .. else`, by which document 01 has the model's answer taken apart
+    let Ok(ModelRead { initial, .. }) = read else {
+        return Err(read.unwrap_err());
     };
-    let index = model_read.index;
-    let mut nodes = [NodeEntry::NONE; tables::NODES];
-    let mut zones = [Zone::universe(); tables::NODES];
-    let table_read = tables::index_table(&index, table, &mut nodes, &mut zones)?;
-    let contained = reaching::contained(&nodes, &zones, &guards, table_read.count);
+    let mut indexed_table = IndexedTable::default();
+    index_table(&indexed_model.index, table, &mut indexed_table)?;
+    let nodes = &indexed_table.nodes[..indexed_table.count];
     let judging = Judging {
         words: table,
-        index: &index,
-        edges: &edges,
-        guards: &guards,
-        nodes: &nodes,
-        zones: &zones,
-        contained: &contained,
-        whole: table_read.whole,
-        count: table_read.count,
+        model: &indexed_model,
+        table: &indexed_table,
+        contained: &reaching::contained(nodes, &indexed_model.zones),
     };
     judging.all()?;
-    let s = table_read.start as usize;
-    let node = nodes[s];
-    let certificate = Certificate {
-        b: node.value,
-        whole: table_read.whole,
-        nodes: table_read.count,
-    };
-    start_verdict(
-        index.start,
-        model_read.initial,
-        node,
-        zones[s],
-        table_read.place,
-        certificate,
-    )
+    judging.start(initial)
 }

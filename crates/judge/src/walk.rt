@@ -5,96 +5,79 @@ ghost use Rattle.judge.specs.Looking.{rows_of, node_of, all_of, AsksRows, AsksNo
 use crate::judging::Judging;
 use crate::reaching;
 use answers::{Reason, Refusal};
-use model::kinds;
 use model::places::GUARDS;
-use table::fields;
-use table::nodes::NodeEntry;
-use zone::words;
-use zone::zones::Zone;
+use model::table_kinds::TableKind;
 
 impl Judging<'_> {
-    /// Judges the rows of a node, numbered n, row by row and successor by successor. The first check that fails leaves both loops, with its place.
-    pub(crate) fn rows(&self, n: usize, node: NodeEntry) -> Result<(), Refusal>
-        requires { AsksRows self.now n node }
-        ensures { result ≡ rows_of self.now n node }
+    /// Judges the rows of the node n, row by row and successor by successor. The first check that fails leaves both loops, with its place.
+    pub(crate) fn rows(&self, n: usize) -> Result<(), Refusal>
+        requires { AsksRows self.now n }
+        ensures { result ≡ rows_of self.now n }
     {
-        let index = self.index;
-        let list = self.words;
-        let l = node.location as usize;
-        let first_action = index.actions[l] as usize;
-        let end_action = index.actions[l + 1] as usize;
-        if first_action == end_action {
+        let node = &self.table.nodes[n];
+        let actions = self.model.index.actions_of(node.location);
+        if actions.is_empty() {
             return Ok(());
         }
-        let waited = reaching::waited(self.zones[n], self.guards[l]);
-        let mut checked = Ok(());
+        let waited = reaching::waited(node.zone, self.model.zones[node.location]);
         let mut at = node.place + 1;
-        // kept: document 01 names these two loops with one label; a is the number of an action, of its guard and of its edges, and the words go on
-        // from row to row
-        'rows: for a in first_action..end_action {
-            let reach = reaching::common(waited, self.guards[GUARDS + a]);
-            let empty = reach.is_empty();
-            let blocked = words::kind_of(list[at]) == kinds::BLOCKED;
-            if blocked {
-                if !empty {
-                    checked = Err(Reason::NotBlocked.at(at));
-                    break 'rows;
-                }
-                at += 1;
-            } else {
-                let limit = index.denominator as u64 * node.value as u64;
-                let first = at;
-                let mut sum: u64 = 0;
-                let first_edge = index.edges[a] as usize;
-                let end_edge = index.edges[a + 1] as usize;
-                for &edge in &self.edges[first_edge..end_edge] {
-                    let s = fields::number_of(list[at]) as usize;
-                    match self.successor(reach, empty, edge, s, at) {
-                        Ok(share) => sum += share,
-                        Err(refusal) => {
-                            checked = Err(refusal);
-                            break 'rows;
-                        }
+        // kept: a label, by which document 01 has both loops left, and `at`, since the words go on from row to row
+        'rows: {
+            for a in actions {
+                let reach = reaching::common(waited, self.model.zones[GUARDS + a]);
+                let empty = reach.is_empty();
+                if TableKind::Blocked.is(self.words[at]) {
+                    if !empty {
+                        break 'rows Err(Reason::NotBlocked.at(at));
                     }
                     at += 1;
+                    continue;
+                }
+                let limit = self.model.index.denominator as u64 * node.value as u64;
+                let edges = &self.model.edges[self.model.index.edges_of(a)];
+                let mut sum = 0;
+                for (e, &edge) in edges.iter().enumerate() {
+                    match self.successor(reach, empty, edge, at + e) {
+                        Ok(share) => sum += share,
+                        Err(refusal) => break 'rows Err(refusal),
+                    }
                 }
                 if limit < sum {
-                    checked = Err(Reason::SumTooLarge.at(first));
-                    break 'rows;
+                    break 'rows Err(Reason::SumTooLarge.at(at));
                 }
+                at += edges.len();
             }
+            Ok(())
         }
-        checked
     }
 
-    /// Judges one node: the value of a target, the cut, or the rows.
+    /// Judges the node n: the value of a target, the cut, or the rows.
     #[tactic(auto, using(std::proofs::lemmas::Bool::Decides::nat_tests), unfolding(crate::specs::Walk::node_checked))]
     pub(crate) fn node(&self, n: usize) -> Result<(), Refusal>
         requires { AsksNode self.now n }
         ensures { result ≡ node_of self.now n }
     {
-        let index = self.index;
-        let list = self.words;
-        let node = self.nodes[n];
-        if index.targets[node.location as usize] {
-            if node.value == self.whole {
+        let node = &self.table.nodes[n];
+        if self.model.index.targets[node.location] {
+            if node.value == self.table.whole {
                 return Ok(());
             }
             return Err(Reason::BadTargetValue.at(node.place));
         }
-        let behind = node.place + 1;
-        if words::kind_of(list[behind]) == kinds::CUT {
-            return self.cut(n, node, behind);
+        if TableKind::Cut.is(self.words[node.place + 1]) {
+            return self.cut(n);
         }
-        self.rows(n, node)
+        self.rows(n)
     }
 
     /// Judges node by node.
+    #[tactic(auto, using(std::proofs::lemmas::Result::err_from_is_err_and, crate::proofs::WalkLaws::nodes_begin, crate::proofs::WalkLaws::nodes_end, crate::proofs::WalkLaws::node_found, crate::proofs::WalkLaws::node_next))]
     pub(crate) fn all(&self) -> Result<(), Refusal>
         requires { AsksAll self.now }
         ensures { result ≡ all_of self.now }
     {
-        for n in 0..self.count {
+        // kept: a range, since a node is judged by its number: with the node beside it, four functions would take both
+        for n in 0..self.table.count {
             self.node(n)?;
         }
         Ok(())

@@ -1,4 +1,5 @@
--- Cases of the definitions of the program, computed: words, parts and lines, and the line of document 01's timeline and table. Assumes nothing.
+-- Cases of the definitions of the program, computed: words, parts and lines, and the line of document 01's timeline and table. They are for a reader, and no
+-- proof goes by them. Assumes nothing.
 use Prim.Native.Nat.{ℕ}
 use mathlib.Core.Path.{◌≡◌, refl}
 use mathlib.Core.List.{List, [], ◌∷◌}

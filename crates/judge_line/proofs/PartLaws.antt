@@ -1,62 +1,57 @@
--- Laws of the two parts of the words: the table's is found word by word, and the model's is what stands before it. Assumes nothing.
-use Prim.Native.Nat.{ℕ, ◌+◌, ◌-◌, ◌<◌, ◌≤◌}
-use mathlib.Core.Path.{◌≡◌, refl, sym, ap, ◌∙◌}
-use mathlib.Core.Bool.{Bool, true, false, cond}
-use mathlib.Core.List.{List, [], ◌∷◌, ◌++◌}
-use native.Mathlib.Numerals.{add-one}
-use native.Mathlib.Omega.{arith}
-use borrow.Author.Tests.{eq-eqb, ne_eqb}
-use lib.Dec.{eqb}
-use lib.ListN.{length, get_or, take, drop, drop_of_length-le, length-drop, length-append}
-use lib.Seq.{drop-cons, take_all, take-append_seam}
+-- Laws of the two parts of the words: both are found by the place of the first word of kind 7. Assumes nothing.
+use Rattle.std.proofs.Common.{◌≡◌, ℕ, suc, ◌+◌, ◌≤◌, Bool, true, false, not, cond, List, [], ◌∷◌, Option, Some, None, position, nat_eq, nat_lt, length, refl, ap, ◌∙◌, take, drop, arith}
+use Rattle.std.specs.List.{position_or_len}
+use Rattle.std.specs.Option.{unwrap_or}
+use Rattle.std.proofs.lemmas.Bool.{ltb-false}
+use Rattle.std.proofs.lemmas.List.Sums.{prefix_len-le-length}
 use Rattle.zone.specs.Words.{kind}
 use Rattle.judge_line.specs.Bytes.{table_part, model_part}
 
--- a part to the end
-whole : (list : List ℕ) (at : ℕ) → take (length list - at) (drop at list) ≡ drop at list
-whole list at = take_all (length list - at) (drop at list) (simp length-drop (omega arith))
+-- a word of kind 7 begins the table
+abbrev begins : ℕ → Bool
+begins word = nat_eq (kind word) 7
 
-module _ (list : List ℕ) (at : ℕ) (same : table_part list ≡ table_part (drop at list)) where
-  -- a word of kind 7: the table begins
-  pub found : at < length list → kind (get_or list at 0) ≡ 7 → take (length list - at) (drop at list) ≡ table_part list
-  unfolding table_part
-  found h e = whole list at ∙ begins ∙ sym same
-    where
-      begins : drop at list ≡ table_part (drop at list)
-      begins = rw (drop-cons list at 0 h) (simp (eq-eqb _ _ e))
-
-  -- another word: the table lies behind it
-  pub passed : at < length list → (kind (get_or list at 0) ≡ 7 → ⊥) → table_part list ≡ table_part (drop (at + 1) list)
-  unfolding table_part
-  passed h e = same ∙ rw (add-one, drop-cons list at 0 h) (simp (ne_eqb _ _ e))
-
-  -- the end: no table
-  pub nothing : length list ≤ at → [] ≡ table_part list
-  unfolding table_part
-  nothing h = ends ∙ sym same
-    where
-      ends : [] ≡ table_part (drop at list)
-      ends = simp (drop_of_length-le list h)
-
--- the two parts, one after the other
-pub split : (list : List ℕ) → model_part list ++ table_part list ≡ list
-unfolding model_part table_part
-split [] = refl
-split (w ∷ ws) = by (eqb (kind w) 7) (split ws)
+-- its place, or where the words end
+at_first : (list : List ℕ) → unwrap_or (position begins list) (length list) ≡ position_or_len begins list
+at_first list = by (nat_lt n (length list)) refl
   where
-    by : (b : Bool) → model_part ws ++ table_part ws ≡ ws → cond b [] (w ∷ model_part ws) ++ cond b (w ∷ ws) (table_part ws) ≡ w ∷ ws
+    n : ℕ
+    n = position_or_len begins list
+
+    by : (b : Bool) → nat_lt n (length list) ≡ b → unwrap_or (cond b (Some n) None) (length list) ≡ n
     by true e = refl
-    by false e = ap (λ (l : List ℕ). w ∷ l) e
+    by false e = let short : n ≤ length list = prefix_len-le-length _ list in omega (arith, ltb-false n (length list) e)
 
-module _ (list : List ℕ) where
-  sizes : length (model_part list) + length (table_part list) ≡ length list
-  sizes = simp length-append at (ap length (split list))
+-- one word further on
+next : (list : List ℕ) → 1 + position_or_len begins list ≡ suc (position_or_len begins list)
+next list = omega arith
 
-  pub table-length : length (table_part list) ≤ length list
-  table-length = omega (arith, sizes)
+until : (list : List ℕ) → take (position_or_len begins list) list ≡ model_part list
+unfolding model_part
+until [] = refl
+until (w ∷ ws) = by (begins w) (until ws)
+  where
+    by : (b : Bool) → take (position_or_len begins ws) ws ≡ model_part ws →
+        take (cond (not b) (1 + position_or_len begins ws) 0) (w ∷ ws) ≡ cond b [] (w ∷ model_part ws)
+    by true e = refl
+    by false e = rw (next ws) (ap (λ l. w ∷ l) e)
 
-  -- what stands before the table
-  pub before-table : take (length list - length (table_part list)) list ≡ model_part list
-  before-table =
-      let n : length list - length (table_part list) ≡ length (model_part list) = omega (arith, sizes) in
-      rw n (ap (take (length (model_part list))) (sym (split list)) ∙ take-append_seam (model_part list) (table_part list))
+from : (list : List ℕ) → drop (position_or_len begins list) list ≡ table_part list
+unfolding table_part
+from [] = refl
+from (w ∷ ws) = by (begins w) (from ws)
+  where
+    by : (b : Bool) → drop (position_or_len begins ws) ws ≡ table_part ws →
+        drop (cond (not b) (1 + position_or_len begins ws) 0) (w ∷ ws) ≡ cond b (w ∷ ws) (table_part ws)
+    by true e = refl
+    by false e = rw (next ws) e
+
+module _ (list : List ℕ) (first : Option ℕ) (at : ℕ) (found : first ≡ position begins list) (ends : at ≡ unwrap_or first (length list)) where
+  here : at ≡ position_or_len begins list
+  here = ends ∙ ap (λ o. unwrap_or o (length list)) found ∙ at_first list
+
+  pub before : take at list ≡ model_part list
+  before = ap (λ n. take n list) here ∙ until list
+
+  pub behind : drop at list ≡ table_part list
+  behind = ap (λ n. drop n list) here ∙ from list

@@ -1,22 +1,21 @@
 -- The line that the program prints, test by test. Assumes nothing.
-use Prim.Native.Nat.{ℕ, ◌%◌, ◌-◌, ◌<◌, ◌≤◌}
+use Prim.Native.Nat.{ℕ, ◌%◌, ◌<◌, ◌≤◌}
 use mathlib.Core.Path.{◌≡◌, refl, sym, ap, subst, ◌∙◌}
 use mathlib.Core.Logic.{inl, inr}
 use mathlib.Core.List.{List}
 use native.Mathlib.Omega.{arith}
 use borrow.Author.Tests.{eq-eqb}
 use lib.Dec.{T, leb→le, le→leb, eqb→eq}
-use lib.ListN.{length, take}
-use Rattle.std.specs.Prelude.{Err}
+use lib.ListN.{length}
+use Rattle.std.specs.Prelude.{Result, Ok, Err, IsErrAnd}
 use Rattle.answers.specs.Checks.{Answer, refused}
 use Rattle.answers.specs.Refusals.{number, answer_of}
-use Rattle.answers.specs.declared.Reason.{Reason}
 use Rattle.answers.specs.declared.Refusal.{Refusal}
 use Rattle.acceptance.specs.Judging.{Judged, BoundsSchedulers}
 use Rattle.acceptance.specs.declared.certificate.Certificate.{Certificate}
-use Rattle.judge_line.specs.Bytes.{words_of, table_part}
+use Rattle.judge_line.specs.Bytes.{table_part, model_part}
+use Rattle.judge_line.specs.Words.{AreWords, NoWords}
 use Rattle.judge_line.specs.Program.{model_in, table_in, program_checks, ProgramAnswers}
-use Rattle.judge_line.proofs.PartLaws.{before-table}
 
 module _ (bytes : List ℕ) where
   -- too long
@@ -36,19 +35,20 @@ module _ (bytes : List ℕ) where
     unfolding program_checks
     program-answers w answer j b = record { says = inl (le→leb _ _ h, inl (subst T (sym (eq-eqb _ _ w)) tt, j.says)); bounds = b }
 
--- a refusal with place 0
-pub refuses : (bytes : List ℕ) (r : Refusal) (reason : Reason) → r.reason ≡ reason → r.place ≡ 0 → ProgramAnswers bytes (refused (number reason) 0) →
-    ProgramAnswers bytes (answer_of (Err r))
-unfolding answer_of
-refuses bytes r reason e p a = rw (e, p) a
+-- no words are read, and the refusal is handed on
+pub answers_refusal : (bytes : List ℕ) (result : Result Certificate Refusal) (r : Refusal) → NoWords 16384 bytes r → IsErrAnd result (λ e. e ≡ r) →
+    ProgramAnswers bytes (answer_of result)
+unfolding answer_of number
+answers_refusal bytes (Ok certificate) r n h = absurd h
+answers_refusal bytes (Err e) r (inl (l, w)) h = rw (h, w) (answers-42 bytes l)
+answers_refusal bytes (Err e) r (inr (l, (n, w))) h = rw (h, w) (answers-41 bytes l n)
 
 -- what is judged are the two parts of the words
-pub answers-verdict : (bytes list table : List ℕ) (answer : Answer Certificate) → length bytes ≤ 65536 → length bytes % 4 ≡ 0 →
-    list ≡ words_of bytes → table ≡ table_part list → Judged (take (length list - length table) list) table answer →
-    BoundsSchedulers (take (length list - length table) list) answer → ProgramAnswers bytes answer
-answers-verdict bytes list table answer h w words part j b =
-    let t : table ≡ table_in bytes = part ∙ ap table_part words in
-    let m : take (length list - length table) list ≡ model_in bytes = rw (t, words) (before-table (words_of bytes)) in
-    program-answers bytes h w answer
-    (subst (λ (l : List ℕ). Judged (model_in bytes) l answer) t (subst (λ (l : List ℕ). Judged l table answer) m j))
-    (subst (λ (l : List ℕ). BoundsSchedulers l answer) m b)
+pub answers_verdict : (bytes list model table : List ℕ) (answer : Answer Certificate) → AreWords 16384 bytes list → model ≡ model_part list →
+    table ≡ table_part list → Judged model table answer → BoundsSchedulers model answer → ProgramAnswers bytes answer
+answers_verdict bytes list model table answer h m t j b =
+    let first : model ≡ model_in bytes = m ∙ ap model_part h.same in
+    let second : table ≡ table_in bytes = t ∙ ap table_part h.same in
+    program-answers bytes h.few h.whole answer
+    (subst (λ (l : List ℕ). Judged (model_in bytes) l answer) second (subst (λ (l : List ℕ). Judged l table answer) first j))
+    (subst (λ (l : List ℕ). BoundsSchedulers l answer) first b)

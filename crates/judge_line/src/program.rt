@@ -6,31 +6,23 @@ ghost use Rattle.answers.specs.Refusals.{answer_of};
 use crate::text::Line;
 use crate::{parts, words};
 use acceptance::certificate::Certificate;
-use answers::{Reason, Refusal};
+use answers::Refusal;
 use judge::verdict;
 
-// The most bytes that the program takes, how many words they are, and how many bytes to read so that a longer input shows.
-const MOST_BYTES: usize = 65536;
+/// The most words that the program takes: document 01's 65,536 bytes.
+pub const MOST_WORDS: usize = 16384;
 
-const MOST_WORDS: usize = MOST_BYTES / 4;
-
-pub const READ_BYTES: usize = MOST_BYTES + 1;
+/// How many bytes to read, so that a longer input shows.
+pub const READ_BYTES: usize = 4 * MOST_WORDS + 1;
 
 /// The program's answer to a file's bytes: 42 and 41 before anything is read as words, then the verdict on the model and the table.
-pub(crate) fn answer(bytes: &[u8]) -> Result<Certificate, Refusal>
+#[tactic(auto, using(crate::proofs::Printing::answers_refusal, crate::proofs::Printing::answers_verdict))]
+pub(crate) fn judged(bytes: &[u8]) -> Result<Certificate, Refusal>
     ensures { ProgramAnswers bytes.now (answer_of result) }
 {
-    if MOST_BYTES < bytes.len() {
-        return Err(Reason::TooLong.at(0));
-    }
-    if bytes.len() % 4 != 0 {
-        return Err(Reason::NotWords.at(0));
-    }
     let mut space = [0u32; MOST_WORDS];
-    words::to_words(bytes, &mut space);
-    let list = &space[..bytes.len() / 4];
-    let table = parts::table_part(list);
-    let model = &list[..list.len() - table.len()];
+    let list = words::words_in(bytes, &mut space)?;
+    let (model, table) = parts::parts(list);
     verdict::judge(model, table)
 }
 
@@ -38,5 +30,5 @@ pub(crate) fn answer(bytes: &[u8]) -> Result<Certificate, Refusal>
 pub fn line_of(bytes: &[u8]) -> Line
     ensures { Prints bytes.now (shown result) }
 {
-    Line(answer(bytes))
+    Line(judged(bytes))
 }

@@ -17,6 +17,7 @@ pub struct Line(pub Result<Certificate, Refusal>);
 
 impl Line {
     /// Its text, gathered on the stack, so that it can be written at once.
+    // kept: with no `write!`, since of one into a text of so many bytes no clause says that it succeeds
     pub fn text(&self) -> ArrayString<LONGEST>
         ensures { result.bytes ≡ shown self.now }
     {

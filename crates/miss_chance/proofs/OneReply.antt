@@ -1,5 +1,6 @@
 -- At most one outcome meets the promise of each of document 01's four calls and of the draft of document 02, card 5: what it writes and what it returns
--- follow from what it was lent. Of the board's two calls `OneAnswer.antt` of `board` says it. Assumes nothing.
+-- follow from what it was lent. Of the board's two calls `OneAnswer.antt` of `board` says it. The five theorems at the end are for a reader, and no proof goes
+-- by them. Assumes nothing.
 use Prim.Native.Nat.{ℕ, ◌<◌, ◌≤◌}
 use mathlib.Core.Path.{◌≡◌, sym, ap, ◌∙◌}
 use mathlib.Core.Bool.{Bool}

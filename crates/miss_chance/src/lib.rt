@@ -21,6 +21,7 @@ use slots::Slot;
 use zone::questions;
 
 /// Judges a table against a model.
+// kept: model, table and answer side by side, here and below, as C hands them over
 pub fn miss_chance_judge(model: &[u32], table: &[u32], answer: &mut [u64]) -> bool
     ensures { Replies (Verdicts model.now table.now) certificate_words answer.old answer.new result }
 {

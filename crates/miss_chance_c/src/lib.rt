@@ -1,5 +1,6 @@
 // The seven calls of `miss_chance` as a static library for C and Rust, under the same names and with the same promises. A slice passes as a pointer and then
 // a length.
+// kept: each call once more, since a crate is a library for C or for Rattle, not both (docs/DECISIONS.md)
 #![tactic(auto)]
 
 ghost use Rattle.zone.specs.Questions.{AskedEmpty, AskedInside};

@@ -23,13 +23,14 @@ use Rattle.model.specs.Fields.{clocks_of, denominator_of, weight_of, fields?}
 use Rattle.model.specs.Before.{opener_from, count_of}
 use Rattle.model.specs.Reading.{last_edges, weights, limit?, adds?, word_checks, words_checks}
 use Rattle.model.specs.Scan.{nothing, fields_at?, limit_at?, adds_at?, checked, checked_end, seen_with_kind, seen_with}
-use Rattle.model.specs.Index.{Kept, keep, empty_index, kept_with, closed, Pass, pass_at, unless_refused, pass_end, scan_from, scanned}
+use Rattle.model.specs.Index.{steps, emptied, kept_with, closed, scanned}
+use Rattle.pass.specs.Steps.{Passed, passed_at, unless_refused, pass_end, pass_from}
+use Rattle.model.specs.declared.index.IndexedModel.{IndexedModel}
 use Rattle.model.specs.declared.seen.Seen.{Seen}
 use Rattle.model.specs.declared.read.Counts.{Counts}
-use Rattle.model.proofs.Run.{Run}
-use Rattle.model.proofs.KindLaws.{kind-is, head_first, before-bound}
+use Rattle.pass.proofs.Run.{Run}
+use Rattle.model.proofs.KindLaws.{kind_is, head_first, before-bound}
 use Rattle.model.proofs.Limits.{Passes, passes, first_fault}
-use Rattle.zone.specs.declared.zones.Zone.{Zone as Square}
 
 -- ---- what the words before come to
 
@@ -189,7 +190,7 @@ same_tests :
     (fields_at? s w ≡ field? C D before w) × (adds_at? s w ≡ sum? C D before w)
 unfolding fields_at? adds_at? fields? adds?
 same_tests C D before s w t (here e o n) =
-    let o' : opener_from (number none) before ≡ number none = sym t.opener ∙ o in (rw (kind-is head w n), rw (o, o'))
+    let o' : opener_from (number none) before ≡ number none = sym t.opener ∙ o in (rw (kind_is head w n), rw (o, o'))
 same_tests C D before s w t (there h n) = (cc, cc)
 
 same-fault :
@@ -216,7 +217,7 @@ answer_behind (Err r) whole = answer_of (Err r)
 module _ (more : List Check) (P : Counts → Type 0) (whole : Answer Counts) where
   -- at a word
   step-first :
-      (a b c d : Bool) (f : Result (Unit {0}) Reason) → f ≡ first_fault a b c d → (p : ℕ) (k : Kept) (go : Pass) →
+      (a b c d : Bool) (f : Result (Unit {0}) Reason) → f ≡ first_fault a b c d → (p : ℕ) (k : IndexedModel) (go : Passed Seen IndexedModel) →
       (f ≡ Ok tt → First more P (answer_behind go.outcome whole)) →
       First (test 1 p a ∷ test 2 p b ∷ test 3 p c ∷ test 4 p d ∷ more) P (answer_behind (unless_refused f p k go).outcome whole)
   unfolding unless_refused answer_behind answer_of refusals.number
@@ -228,24 +229,24 @@ module _ (more : List Check) (P : Counts → Type 0) (whole : Answer Counts) whe
 
   -- at the end
   last-first :
-      (c : Bool) (f : Result (Unit {0}) Reason) → f ≡ cond c (Ok tt) (Err reason.BadModelKind) → (p : ℕ) (s : Seen) (k : Kept) →
-      (f ≡ Ok tt → First more P whole) → First (test 1 p c ∷ more) P (answer_behind (unless_refused f p k (pass_at (Ok s) k)).outcome whole)
+      (c : Bool) (f : Result (Unit {0}) Reason) → f ≡ cond c (Ok tt) (Err reason.BadModelKind) → (p : ℕ) (s : Seen) (k : IndexedModel) →
+      (f ≡ Ok tt → First more P whole) → First (test 1 p c ∷ more) P (answer_behind (unless_refused f p k (passed_at (Ok s) k)).outcome whole)
   unfolding unless_refused answer_behind answer_of refusals.number
   last-first true f e p s k h = rw e (inl (tt, h e))
   last-first false f e p s k h = rw e (inr (λ t. t, refl))
 
 words-from :
-    (C D : ℕ) (before words : List ℕ) (s : Seen) (k : Kept) → Agrees C D before s → Heads C D before (get_or words 0 0) →
-    (more : List Check) (P : Counts → Type 0) (whole : Answer Counts) → (Run s (length before) words → First more P whole) →
-    First (words_checks C D before words ++ more) P (answer_behind (scan_from s k (length before) words).outcome whole)
-unfolding scan_from pass_end words_checks word_checks checked_end
+    (C D : ℕ) (before words : List ℕ) (s : Seen) (k : IndexedModel) → Agrees C D before s → Heads C D before (get_or words 0 0) →
+    (more : List Check) (P : Counts → Type 0) (whole : Answer Counts) → (Run steps s (length before) words → First more P whole) →
+    First (words_checks C D before words ++ more) P (answer_behind (pass_from steps s k (length before) words).outcome whole)
+unfolding pass_from pass_end words_checks word_checks checked_end
 words-from C D before [] s k a first more P whole h =
     last-first more P whole (eqb (opener_from (number none) before) (number start)) (checked_end s) (rw a.tallies.opener) (length before) s
-    (keep (closed s k.index) k.edges k.zones) h
+    (closed s k) h
 words-from C D before (w ∷ ws) s k a first more P whole h =
     let p : ℕ = length before in
     step-first (words_checks C D (w ∷ before) ws ++ more) P whole (kind? C D before w) (field? C D before w) (under? C D before w)
-    (sum? C D before w) (checked s w) (fault-is C D before s w a) p k (scan_from (seen_with s w p) (kept_with s w k) (suc p) ws) λ f.
+    (sum? C D before w) (checked s w) (fault-is C D before s w a) p k (pass_from steps (seen_with s w p) (kept_with s w k) (suc p) ws) λ f.
     words-from C D (w ∷ before) ws (seen_with s w p) (kept_with s w k) (agrees_with C D before s w p a f first)
     (λ e. absurd (omega (arith, ap length e))) more P whole (λ r. h (f, r))
 
@@ -254,9 +255,9 @@ abbrev pub checks_of : List ℕ → List Check
 checks_of words = words_checks (clocks_of (get_or words 0 0)) (denominator_of (get_or words 0 0)) [] words
 
 pub words-first :
-    (words es : List ℕ) (zs : List Square) (more : List Check) (P : Counts → Type 0) (whole : Answer Counts) → (Run nothing 0 words → First more P whole) →
-    First (checks_of words ++ more) P (answer_behind (scanned words es zs).outcome whole)
+    (words : List ℕ) (m : IndexedModel) (more : List Check) (P : Counts → Type 0) (whole : Answer Counts) → (Run steps nothing 0 words → First more P whole) →
+    First (checks_of words ++ more) P (answer_behind (scanned words m).outcome whole)
 unfolding scanned
-words-first words es zs =
-    words-from (clocks_of (get_or words 0 0)) (denominator_of (get_or words 0 0)) [] words nothing (keep empty_index es zs) (agrees-nothing _ _)
+words-first words m =
+    words-from (clocks_of (get_or words 0 0)) (denominator_of (get_or words 0 0)) [] words nothing (emptied m) (agrees-nothing _ _)
     (λ e. (refl, refl))

@@ -16,18 +16,18 @@ use Rattle.model.specs.Fields.{clocks_of, denominator_of, fields?}
 use Rattle.model.specs.Before.{opener_from, count_of, index_of}
 use Rattle.model.specs.Reading.{counts_of}
 use Rattle.model.specs.Scan.{nothing, checked, checked_end, seen_with_kind, seen_with}
-use Rattle.model.specs.Index.{counts_at}
+use Rattle.model.specs.Index.{steps, counts_at}
 use Rattle.model.specs.declared.seen.Seen.{Seen}
-use Rattle.model.proofs.Run.{Run, seen_end}
-use Rattle.model.proofs.KindLaws.{kind-is, after-start}
+use Rattle.pass.proofs.Run.{Run, seen_end}
+use Rattle.model.proofs.KindLaws.{kind_is, after-start}
 use Rattle.model.proofs.Limits.{Passes, passes, all_pass}
 use Rattle.model.proofs.Checking.{Headed, Agrees, Heads, agrees-nothing, agrees_with}
 
 -- ---- the counts
 
 agrees-end :
-    (C D : ℕ) (before words : List ℕ) (s : Seen) (p : ℕ) → Agrees C D before s → Heads C D before (get_or words 0 0) → Run s p words →
-    Agrees C D (reverse_aux words before) (seen_end s p words)
+    (C D : ℕ) (before words : List ℕ) (s : Seen) (p : ℕ) → Agrees C D before s → Heads C D before (get_or words 0 0) → Run steps s p words →
+    Agrees C D (reverse_aux words before) (seen_end steps s p words)
 unfolding seen_end
 agrees-end C D before [] s p a first r = a
 agrees-end C D before (w ∷ ws) s p a first r =
@@ -49,7 +49,7 @@ pub ends : (s : Seen) → checked_end s ≡ Ok tt → number s.opener ≡ number
 unfolding checked_end
 ends s h = eqb-true (number s.opener) (number start) (all_pass (eqb (number s.opener) (number start)) true true true h).0
 
-run_ends : (s : Seen) (p : ℕ) (words : List ℕ) → Run s p words → number (seen_end s p words).opener ≡ number start
+run_ends : (s : Seen) (p : ℕ) (words : List ℕ) → Run steps s p words → number (seen_end steps s p words).opener ≡ number start
 unfolding seen_end
 run_ends s p [] r = ends s r
 run_ends s p (w ∷ ws) r = run_ends (seen_with s w p) (suc p) ws r.1
@@ -60,9 +60,9 @@ run_ends s p (w ∷ ws) r = run_ends (seen_with s w p) (suc p) ws r.1
 bound-stays : (s : Seen) (w p : ℕ) → number s.opener ≡ number start → checked s w ≡ Ok tt → seen_with s w p ≡ s
 unfolding seen_with seen_with_kind
 bound-stays s w p o f =
-    let g = passes s w f in rw (kind-is bound w (g.named ∙ after-start (number (kind_of w)) (rw o at g.follows)))
+    let g = passes s w f in rw (kind_is bound w (g.named ∙ after-start (number (kind_of w)) (rw o at g.follows)))
 
-start-stays : (s : Seen) (p : ℕ) (words : List ℕ) → number s.opener ≡ number start → Run s p words → seen_end s p words ≡ s
+start-stays : (s : Seen) (p : ℕ) (words : List ℕ) → number s.opener ≡ number start → Run steps s p words → seen_end steps s p words ≡ s
 unfolding seen_end
 start-stays s p [] o r = refl
 start-stays s p (w ∷ ws) o r =
@@ -91,26 +91,26 @@ starts start s w p g o =
     now g.named refl (record { place = refl; below = ltb-true _ _ (right_true (eqb (bits 27 4 w) 0) _ g.fields) })
 
 started_with :
-    (w p : ℕ) (ws : List ℕ) (next : Seen) → Starts w p next → Run next (suc p) ws →
-    (number next.opener ≢ number start → Started (seen_end next (suc p) ws) (suc p + index_of (number start) ws)) →
-    Started (seen_end next (suc p) ws) (p + index_of (number start) (w ∷ ws))
+    (w p : ℕ) (ws : List ℕ) (next : Seen) → Starts w p next → Run steps next (suc p) ws →
+    (number next.opener ≢ number start → Started (seen_end steps next (suc p) ws) (suc p + index_of (number start) ws)) →
+    Started (seen_end steps next (suc p) ws) (p + index_of (number start) (w ∷ ws))
 unfolding index_of
 started_with w p ws next (now k o h) r rest = rw (start-stays next (suc p) ws o r, k) (omega arith)
 started_with w p ws next (later n o) r rest = let h = rest o in rw n (omega arith)
 
-started : (s : Seen) (p : ℕ) (words : List ℕ) → number s.opener ≢ number start → Run s p words →
-    Started (seen_end s p words) (p + index_of (number start) words)
+started : (s : Seen) (p : ℕ) (words : List ℕ) → number s.opener ≢ number start → Run steps s p words →
+    Started (seen_end steps s p words) (p + index_of (number start) words)
 unfolding seen_end seen_with
 started s p [] o r = absurd (o (ends s r))
 started s p (w ∷ ws) o r =
     started_with w p ws (seen_with s w p) (starts (kind_of w) s w p (passes s w r.0) o) r.1 λ o. started (seen_with s w p) (suc p) ws o r.1
 
 -- ---- where a pass without a fault ends
-module _ (words : List ℕ) (r : Run nothing 0 words) where
-  agrees : Agrees (clocks_of (get_or words 0 0)) (denominator_of (get_or words 0 0)) (reverse_aux words []) (seen_end nothing 0 words)
+module _ (words : List ℕ) (r : Run steps nothing 0 words) where
+  agrees : Agrees (clocks_of (get_or words 0 0)) (denominator_of (get_or words 0 0)) (reverse_aux words []) (seen_end steps nothing 0 words)
   agrees = agrees-end _ _ [] words nothing 0 (agrees-nothing _ _) (λ e. (refl, refl)) r
 
-  pub counts_end : counts_at (seen_end nothing 0 words) ≡ counts_of words
+  pub counts_end : counts_at (seen_end steps nothing 0 words) ≡ counts_of words
   counts_end =
       let t = agrees.tallies in
       rw (
@@ -122,7 +122,7 @@ module _ (words : List ℕ) (r : Run nothing 0 words) where
         count_reversed (number edge) words,
       )
 
-  pub headed : Headed (clocks_of (get_or words 0 0)) (denominator_of (get_or words 0 0)) (seen_end nothing 0 words)
+  pub headed : Headed (clocks_of (get_or words 0 0)) (denominator_of (get_or words 0 0)) (seen_end steps nothing 0 words)
   unfolding opener_from
   headed = by agrees.headed
     where
@@ -130,11 +130,11 @@ module _ (words : List ℕ) (r : Run nothing 0 words) where
       by (inl e) = absurd (omega (arith, run_ends nothing 0 words r, agrees.tallies.opener, ap (opener_from (number none)) e))
       by (inr h) = h
 
-  begun : Started (seen_end nothing 0 words) (0 + index_of (number start) words)
+  begun : Started (seen_end steps nothing 0 words) (0 + index_of (number start) words)
   begun = started nothing 0 words (λ e. omega arith) r
 
-  pub place_end : (seen_end nothing 0 words).place ≡ index_of (number start) words
+  pub place_end : (seen_end steps nothing 0 words).place ≡ index_of (number start) words
   place_end = omega (arith, begun.place)
 
-  pub start-below : (seen_end nothing 0 words).start < (seen_end nothing 0 words).locations
+  pub start-below : (seen_end steps nothing 0 words).start < (seen_end steps nothing 0 words).locations
   start-below = begun.below

@@ -10,20 +10,20 @@ use Rattle.zone.specs.Squares.{universe}
 use Rattle.zone.proofs.StoreLaws.{put-length, word-length}
 use Rattle.model.specs.Kinds.{Kind, none, head, location, action, edge, bound, start, kind_of}
 use Rattle.model.specs.Scan.{guards_at, start_bounds_at, zone_count, seen_with, seen_with_kind}
-use Rattle.model.specs.Index.{empty_index, Kept, keep, StoresFit, kept_with_kind, kept_with, closed}
+use Rattle.model.specs.Index.{steps, empty_index, emptied, kept_with_kind, kept_with, closed}
+use Rattle.model.specs.declared.index.IndexedModel.{IndexedModel}
 use Rattle.model.specs.declared.seen.Seen.{Seen}
 use Rattle.model.specs.declared.index.Index.{Index}
-use Rattle.model.proofs.Run.{seen_end, kept_end}
-use Rattle.zone.specs.declared.zones.Zone.{Zone as Square}
-use Rattle.zone.specs.Stores.{no_zone}
+use Rattle.pass.proofs.Run.{seen_end, kept_end}
+use Rattle.zone.specs.declared.zones.TheConstants.Zone.{ZEROS}
 
--- ---- the stores and the arrays keep their lengths
+-- ---- the arrays keep their lengths
 
-pub record SameLengths (k m : Kept) : Type 0 where
+pub record SameLengths (k m : IndexedModel) : Type 0 where
   pub edges : length m.edges ≡ length k.edges
   pub zones : length m.zones ≡ length k.zones
 
-pub lengths_with : (k : Kind) (s : Seen) (w : ℕ) (m : Kept) → SameLengths m (kept_with_kind k s w m)
+pub lengths_with : (k : Kind) (s : Seen) (w : ℕ) (m : IndexedModel) → SameLengths m (kept_with_kind k s w m)
 unfolding kept_with_kind
 lengths_with none s w m = record { edges = refl; zones = refl }
 lengths_with head s w m = record { edges = refl; zones = refl }
@@ -33,27 +33,24 @@ lengths_with edge s w m = record { edges = length-set m.edges s.edges w; zones =
 lengths_with bound s w m = record { edges = refl; zones = word-length w s.slot m.zones }
 lengths_with start s w m = record { edges = refl; zones = put-length universe start_bounds_at m.zones }
 
-pub record Sized (m : Kept) : Type 0 where
+pub record Sized (m : IndexedModel) : Type 0 where
   pub targets : length m.index.targets ≡ 16
   pub actions : length m.index.actions ≡ 17
   pub edges : length m.index.edges ≡ 33
   pub words : 128 ≤ length m.edges
   pub zones : zone_count ≤ length m.zones
 
-pub sized-empty : (es : List ℕ) (zs : List Square) → StoresFit es zs → Sized (keep empty_index es zs)
-sized-empty es zs h = record { targets = refl; actions = refl; edges = refl; words = h.edges; zones = h.zones }
+pub sized-emptied : (m : IndexedModel) → Sized m → Sized (emptied m)
+sized-emptied m h = record { targets = refl; actions = refl; edges = refl; words = h.words; zones = h.zones }
 
--- slices as long as they may be have room
-abbrev pub no_words : List ℕ
-no_words = replicate 128 0
+-- what stands there before a model is read into it
+abbrev pub empty_model : IndexedModel
+empty_model = record { index = empty_index; edges = replicate 128 0; zones = replicate 49 ZEROS }
 
-abbrev pub no_keys : List Square
-no_keys = replicate 49 no_zone
+pub sized-empty : Sized empty_model
+sized-empty = let e = length-replicate {A = ℕ} 128 0 in let z = length-replicate 49 ZEROS in omega arith
 
-pub zeros-fit : StoresFit no_words no_keys
-zeros-fit = let e = length-replicate {A = ℕ} 128 0 in let z = length-replicate 49 no_zone in omega arith
-
-pub sized_with : (k : Kind) (s : Seen) (w : ℕ) (m : Kept) → Sized m → Sized (kept_with_kind k s w m)
+pub sized_with : (k : Kind) (s : Seen) (w : ℕ) (m : IndexedModel) → Sized m → Sized (kept_with_kind k s w m)
 unfolding kept_with_kind
 sized_with k s w m h = let l = lengths_with k s w m in by k (omega arith) (omega arith)
   where
@@ -80,13 +77,13 @@ sized_with k s w m h = let l = lengths_with k s w m in by k (omega arith) (omega
     by start e z = record { targets = h.targets; actions = h.actions; edges = h.edges; words = e; zones = z }
 
 -- ---- n has the entries of m for the locations, actions and edges that were seen
-pub record Lasts (s : Seen) (m n : Kept) : Type 0 where
+pub record Lasts (s : Seen) (m n : IndexedModel) : Type 0 where
   pub targets : (l : ℕ) → l < s.locations → get_or n.index.targets l false ≡ get_or m.index.targets l false
   pub actions : (l : ℕ) → l < s.locations → get_or n.index.actions l 0 ≡ get_or m.index.actions l 0
   pub edges : (a : ℕ) → a < s.actions → get_or n.index.edges a 0 ≡ get_or m.index.edges a 0
   pub words : (e : ℕ) → e < s.edges → get_or n.edges e 0 ≡ get_or m.edges e 0
 
-lasts_with : (k : Kind) (s : Seen) (w p : ℕ) (m n : Kept) → Lasts (seen_with_kind k s w p) (kept_with_kind k s w m) n → Lasts s m n
+lasts_with : (k : Kind) (s : Seen) (w p : ℕ) (m n : IndexedModel) → Lasts (seen_with_kind k s w p) (kept_with_kind k s w m) n → Lasts s m n
 unfolding seen_with_kind kept_with_kind
 lasts_with none s w p m n h = h
 lasts_with head s w p m n h = record { targets = h.targets; actions = h.actions; edges = h.edges; words = h.words }
@@ -111,7 +108,7 @@ lasts_with edge s w p m n h = record {
 lasts_with bound s w p m n h = record { targets = h.targets; actions = h.actions; edges = h.edges; words = h.words }
 lasts_with start s w p m n h = record { targets = h.targets; actions = h.actions; edges = h.edges; words = h.words }
 
-pub lasts-end : (s : Seen) (m : Kept) (p : ℕ) (ws : List ℕ) → Lasts s m (kept_end s m p ws)
+pub lasts-end : (s : Seen) (m : IndexedModel) (p : ℕ) (ws : List ℕ) → Lasts s m (kept_end steps s m p ws)
 unfolding kept_end seen_with kept_with closed
 lasts-end s m p [] = record {
   targets = λ l i. refl;
@@ -128,7 +125,7 @@ pub record Numbers (x : Index) (s : Seen) : Type 0 where
   pub locations : x.locations ≡ s.locations
   pub start : x.start ≡ s.start
 
-pub numbers-end : (s : Seen) (m : Kept) (p : ℕ) (ws : List ℕ) → Numbers (kept_end s m p ws).index (seen_end s p ws)
+pub numbers-end : (s : Seen) (m : IndexedModel) (p : ℕ) (ws : List ℕ) → Numbers (kept_end steps s m p ws).index (seen_end steps s p ws)
 unfolding kept_end seen_end closed
 numbers-end s m p [] = record { clocks = refl; denominator = refl; locations = refl; start = refl }
 numbers-end s m p (w ∷ ws) = numbers-end (seen_with s w p) (kept_with s w m) (suc p) ws

@@ -1,8 +1,10 @@
 -- Laws of the fields of a model's words. Assumes nothing.
-use Prim.Native.Nat.{ℕ, ◌/◌, ◌%◌, ◌^◌}
-use mathlib.Core.Path.{◌≡◌, sym, ap}
-use native.Mathlib.Nat.{div-one}
+use Rattle.std.proofs.Common.{◌≡◌, refl}
+use mathlib.Core.Bool.{Bool, true, false, not, beq, ◌&&◌, ◌||◌}
 
--- the lowest bits of a word
-pub lowest : (w n : ℕ) → w % n ≡ w / 2 ^ 0 % n
-lowest w n = ap (λ (m : ℕ). m % n) (sym (div-one w))
+-- two truth values differ where one holds and the other does not
+pub differ : (a b : Bool) → not (beq a b) ≡ (a && not b) || (not a && b)
+differ true true = refl
+differ true false = refl
+differ false true = refl
+differ false false = refl

@@ -1,18 +1,18 @@
 -- Every zone of a model whose words pass the checks is good. Assumes nothing.
 use Prim.Native.Nat.{ℕ, suc}
-use mathlib.Core.Path.{◌≡◌, refl, ap, ◌∙◌}
-use mathlib.Core.Bool.{true}
+use mathlib.Core.Path.{◌≡◌, refl}
 use mathlib.Core.List.{List, [], ◌∷◌}
 use Rattle.std.proofs.Common.{Ok}
-use Rattle.zone.specs.Words.{kind, bound_of}
+use Rattle.zone.specs.Words.{bound_of}
 use Rattle.zone.proofs.WordLaws.{good-fields}
-use Rattle.model.specs.Kinds.{Kind, none, head, location, action, edge, bound, start, number, is, kind_of}
+use Rattle.model.specs.Kinds.{Kind, none, head, location, action, edge, bound, start, kind_of}
 use Rattle.model.specs.Model.{Action, Location, Model, Parts, parts_with, parts_of, model_of}
 use Rattle.model.specs.States.{location_at}
 use Rattle.model.specs.Scan.{nothing, checked, seen_with, WithinLimits}
 use Rattle.model.specs.declared.seen.Seen.{Seen}
-use Rattle.model.proofs.Run.{Run}
-use Rattle.model.proofs.Limits.{passes, limits-nothing, limits_with, good-bound}
+use Rattle.model.specs.Index.{steps}
+use Rattle.pass.proofs.Run.{Run}
+use Rattle.model.proofs.Limits.{limits-nothing, limits_with, good_bound}
 use Rattle.model.proofs.ZoneLaws.{All, empty, more, all-at, GoodBound, GoodZone, good-word}
 
 pub record GoodAction (A : Action) : Type 0 where
@@ -59,17 +59,15 @@ good_with start w P b g = record { bounds = empty; actions = empty; locations = 
 -- a bound that passes the checks
 bound-good : (s : Seen) (w : ℕ) → WithinLimits s → checked s w ≡ Ok tt → kind_of w ≡ bound → GoodBound (bound_of w)
 bound-good s w h f e =
-    let named : kind w ≡ number bound = (passes s w f).named ∙ ap number e in
-    let b : is bound w ≡ true = rw named in
-    good-word s.clocks w h.clocks (good-fields s.clocks w (good-bound s w h f b))
+    good-word s.clocks w h.clocks (good-fields s.clocks w (good_bound s w h f e))
 
-good-parts : (s : Seen) (p : ℕ) (ws : List ℕ) → WithinLimits s → Run s p ws → GoodParts (parts_of ws)
+good-parts : (s : Seen) (p : ℕ) (ws : List ℕ) → WithinLimits s → Run steps s p ws → GoodParts (parts_of ws)
 unfolding parts_of
 good-parts s p [] h r = record { bounds = empty; actions = empty; locations = empty; start_bounds = empty }
 good-parts s p (w ∷ ws) h r =
     good_with (kind_of w) w (parts_of ws) (bound-good s w h r.0) (good-parts (seen_with s w p) (suc p) ws (limits_with s w p h r.0) r.1)
 
-pub good-model : (words : List ℕ) → Run nothing 0 words → GoodModel (model_of words)
+pub good-model : (words : List ℕ) → Run steps nothing 0 words → GoodModel (model_of words)
 unfolding model_of location_at
 good-model words r = record {
   invariants = λ l. (at l).invariant;

@@ -10,7 +10,7 @@ use Rattle.zone.proofs.Regions.{Stands}
 use Rattle.model.specs.Model.{Action, Model}
 use Rattle.model.specs.States.{nowhere, location_at}
 use Rattle.model.specs.Scan.{guards_at}
-use Rattle.model.specs.Index.{Kept}
+use Rattle.model.specs.declared.index.IndexedModel.{IndexedModel}
 use Rattle.model.specs.Indexed.{Each, ActionAt, LocationAt, Indexed}
 use Rattle.model.proofs.ZoneLaws.{stands-bounds}
 use Rattle.model.proofs.GoodModel.{GoodAction, GoodModel}
@@ -23,7 +23,7 @@ each_at P n (x ∷ xs) d h zero l = subst (λ (m : ℕ). P m x) (sym (add-zero n
 each_at P n (x ∷ xs) d h (suc i) l =
     subst (λ (m : ℕ). P m (get_or xs i d)) (suc-add n i ∙ sym (add-suc n i)) (each_at P (suc n) xs d h.1 i (le_of_suc-le-suc l))
 
-module _ {M : Model} {k : Kept} (x : Indexed M k) where
+module _ {M : Model} {k : IndexedModel} (x : Indexed M k) where
   pub location-at : (l : ℕ) → l < length M.locations → LocationAt k l (location_at M l)
   unfolding location_at
   location-at l h =
@@ -36,6 +36,6 @@ module _ {M : Model} {k : Kept} (x : Indexed M k) where
   invariant-stands g l h = rw (location-at l h).invariant (stands-bounds (location_at M l).invariant (g.invariants l))
 
 -- the zone of an action is its guard's
-pub guard-stands : {k : Kept} {a : ℕ} {A : Action} → ActionAt k a A → GoodAction A →
+pub guard-stands : {k : IndexedModel} {a : ℕ} {A : Action} → ActionAt k a A → GoodAction A →
     Stands (within A.guard) (zone_at k.zones (guards_at + a))
 guard-stands {A = A} x g = rw x.guard (stands-bounds A.guard g.guard)

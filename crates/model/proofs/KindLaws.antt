@@ -4,33 +4,31 @@ use mathlib.Core.Path.{◌≡◌, refl, sym, ap, ◌∙◌}
 use mathlib.Core.Logic.{◌≢◌}
 use mathlib.Core.Bool.{Bool, true, false, not, cond, ◌&&◌, ◌||◌}
 use mathlib.Core.List.{List, [], ◌∷◌}
-use borrow.Author.Tests.{eqb-true, ltb-true}
+use borrow.Author.Tests.{eqb-true, ltb-true, not-true}
 use lib.Dec.{T, eqb, ltb, eqb→eq}
 use lib.ListN.{get_or}
+use native.Mathlib.Nat.{zero-add}
 use denote.Enum.Bare.{sameb}
 use Rattle.zone.specs.Words.{kind}
-use Rattle.zone.proofs.Bools.{true_false, false_true, both, is_true, left_true, right_true}
-use Rattle.model.specs.Kinds.{Kind, none, head, location, action, edge, bound, start, number, kinds, is, among, kind_of}
+use Rattle.zone.proofs.Bools.{false_true, both, is_true, left_true, right_true}
+use Rattle.model.specs.Kinds.{Kind, none, head, location, action, edge, bound, start, number, kinds, among, kind_of}
 use Rattle.model.specs.contracts.kinds.Kind.{the_type}
 use Rattle.model.specs.TableKinds.{table_number, table_kinds}
 use Rattle.model.specs.Grammar.{follows, table_follows, numbered?, may_follow?, follows?, table_follows?}
 use Rattle.model.specs.Openers.{openers, opener?, table_openers, table_opener?, edge_may_follow?}
-use Rattle.model.proofs.TableRule.{same?, same, keeps?, keeps}
-
--- a number that is not n, read as another
-pub other-number : {r m n : ℕ} → r ≡ m → r ≢ n → m ≢ n
-other-number e h q = h (e ∙ q)
+use Rattle.std.proofs.lemmas.List.FromFn.{get_or-map-range_with_len}
+use Rattle.model.specs.Follows.{follows_row, follows_rows}
 
 -- a word with the number of a kind is of that kind
-pub kind-is : (k : Kind) (w : ℕ) → kind w ≡ number k → kind_of w ≡ k
+pub kind_is : (k : Kind) (w : ℕ) → kind w ≡ number k → kind_of w ≡ k
 unfolding kind_of among
-kind-is none w e = rw e
-kind-is head w e = rw e
-kind-is location w e = rw e
-kind-is action w e = rw e
-kind-is edge w e = rw e
-kind-is bound w e = rw e
-kind-is start w e = rw e
+kind_is none w e = rw e
+kind_is head w e = rw e
+kind_is location w e = rw e
+kind_is action w e = rw e
+kind_is edge w e = rw e
+kind_is bound w e = rw e
+kind_is start w e = rw e
 
 -- ---- what holds of none, and of each kind whose number a word has, holds of the word's kind
 module _ {K : Type 0} (number_of : K → ℕ) (other : K) (P : K → Type 0) where
@@ -63,51 +61,35 @@ no_kind_lem w h l a e b s = by_kind (λ (k : Kind). k ≡ none) w refl other
     other bound q = absurd (b q)
     other start q = absurd (s q)
 
--- a word of one of the six kinds has its number
-pub kind-number : (k : Kind) (w : ℕ) → (number k ≡ 0 → ⊥) → kind_of w ≡ k → kind w ≡ number k
-kind-number k w n e = by_kind (λ (j : Kind). j ≡ k → kind w ≡ number k) w (λ f. absurd (n (ap number (sym f)))) (λ j m f. m ∙ ap number f) e
-
--- whether a word is an edge, by its kind
-pub is-edge : (w : ℕ) → is edge w ≡ eqb (number (kind_of w)) (number edge)
-is-edge w = by (is edge w) refl
-  where
-    by : (b : Bool) → is edge w ≡ b → b ≡ eqb (number (kind_of w)) (number edge)
-    by true e = rw (kind-is edge w (eqb-true (kind w) (number edge) e))
-    by false e = by_kind (λ (k : Kind). false ≡ eqb (number k) (number edge)) w refl (λ k n. rw (← n) (sym e))
-
 -- ---- two kinds are the same, as the code tests it, if their numbers are
-pub same-edge : (k : Kind) → sameb the_type k edge ≡ eqb (number k) (number edge)
-same-edge none = refl
-same-edge head = refl
-same-edge location = refl
-same-edge action = refl
-same-edge edge = refl
-same-edge bound = refl
-same-edge start = refl
+pub same_edge : (k : Kind) → sameb the_type k edge ≡ eqb (number k) (number edge)
+same_edge none = refl
+same_edge head = refl
+same_edge location = refl
+same_edge action = refl
+same_edge edge = refl
+same_edge bound = refl
+same_edge start = refl
 
--- a kind that the code finds to be a bound's, and one that it does not
-pub same-bound : (k : Kind) → sameb the_type k bound ≡ true → k ≡ bound
-same-bound none e = false_true e
-same-bound head e = false_true e
-same-bound location e = false_true e
-same-bound action e = false_true e
-same-bound edge e = false_true e
-same-bound bound e = refl
-same-bound start e = false_true e
-
-pub other-bound : (k : Kind) → sameb the_type k bound ≡ false → k ≢ bound
-other-bound k e q = true_false (rw q at e)
-
-pub same-start : (k : Kind) → sameb the_type k start ≡ eqb (number k) (number start)
-same-start none = refl
-same-start head = refl
-same-start location = refl
-same-start action = refl
-same-start edge = refl
-same-start bound = refl
-same-start start = refl
+pub same_start : (k : Kind) → sameb the_type k start ≡ eqb (number k) (number start)
+same_start none = refl
+same_start head = refl
+same_start location = refl
+same_start action = refl
+same_start edge = refl
+same_start bound = refl
+same_start start = refl
 
 -- ---- what may follow what
+
+-- two truth values are the same
+abbrev pub same? : Bool → Bool → Bool
+same? true b = b
+same? false b = not b
+
+pub same : (a b : Bool) → same? a b ≡ true → a ≡ b
+same true b t = sym t
+same false b t = sym (not-true b t)
 
 either : {X : Type 0} (a b : Bool) → (a ≡ true → X) → (b ≡ true → X) → (a || b) ≡ true → X
 either true b f g h = f refl
@@ -158,9 +140,9 @@ right_of : (a b : Bool) → (a ≡ true → b ≡ true) → (a || b) ≡ b
 right_of true b h = sym (h refl)
 right_of false b h = refl
 
-model-follows : (o n : ℕ) → opener? o ≡ true → (follows? o n || table_follows? o n) ≡ follows? o n
+pub of_model : (o n : ℕ) → opener? o ≡ true → (follows? o n || table_follows? o n) ≡ follows? o n
 unfolding follows table_follows numbered? may_follow? follows? table_follows?
-model-follows o n h = left-of (follows? o n) (table_follows? o n) too
+of_model o n h = left-of (follows? o n) (table_follows? o n) too
   where
     allowed? : ℕ → ℕ → Bool
     allowed? o n = not (opener? o) || follows? o n
@@ -168,9 +150,9 @@ model-follows o n h = left-of (follows? o n) (table_follows? o n) too
     too : table_follows? o n ≡ true → follows? o n ≡ true
     too t = rw h at (is_true (allowed? o n) (each_row table_number table_follows allowed? table_kinds o n tt t))
 
-table-follows : (o n : ℕ) → table_opener? o ≡ true → (follows? o n || table_follows? o n) ≡ table_follows? o n
+pub of_table : (o n : ℕ) → table_opener? o ≡ true → (follows? o n || table_follows? o n) ≡ table_follows? o n
 unfolding follows table_follows numbered? may_follow? follows? table_follows?
-table-follows o n h = right_of (follows? o n) (table_follows? o n) too
+of_table o n h = right_of (follows? o n) (table_follows? o n) too
   where
     allowed? : ℕ → ℕ → Bool
     allowed? o n = not (table_opener? o) || table_follows? o n
@@ -178,27 +160,18 @@ table-follows o n h = right_of (follows? o n) (table_follows? o n) too
     too : follows? o n ≡ true → table_follows? o n ≡ true
     too t = rw h at (is_true (allowed? o n) (table allowed? tt o n t))
 
--- ---- the constant table: rows that keep the rule of both files, at every entry
-pub record FollowsTable (rows : List (List Bool)) : Type 0 where
-  pub rule : keeps? (λ o n. follows? o n || table_follows? o n) 17 16 rows ≡ true
+-- ---- the constant table: it has a row for each opener
+pub opener_row : (o : ℕ) → opener? o ≡ true → o < 17
+opener_row o h = ltb-true o 17 (is_true _ (each-numbered number (λ o. ltb o 17) openers o tt h))
 
--- it has a row for each opener
-pub opener-row : (o : ℕ) → opener? o ≡ true → o < 17
-opener-row o h = ltb-true o 17 (is_true _ (each-numbered number (λ o. ltb o 17) openers o tt h))
+pub table_opener_row : (o : ℕ) → table_opener? o ≡ true → o < 17
+table_opener_row o h = ltb-true o 17 (is_true _ (each-numbered table_number (λ o. ltb o 17) table_openers o tt h))
 
-pub table-opener-row : (o : ℕ) → table_opener? o ≡ true → o < 17
-table-opener-row o h = ltb-true o 17 (is_true _ (each-numbered table_number (λ o. ltb o 17) table_openers o tt h))
-
--- what it says of a kind behind an opener of a model, and behind one of a table
-module _ {rows : List (List Bool)} (t : FollowsTable rows) (o : ℕ) {n : ℕ} (k : n < 16) where
-  looked-up : o < 17 → get_or (get_or rows o []) n false ≡ (follows? o n || table_follows? o n)
-  looked-up h = keeps (λ o n. follows? o n || table_follows? o n) 17 16 rows t.rule o n h k
-
-  pub model-looked-up : opener? o ≡ true → get_or (get_or rows o []) n false ≡ follows? o n
-  model-looked-up h = looked-up (opener-row o h) ∙ model-follows o n h
-
-  pub table-looked-up : table_opener? o ≡ true → get_or (get_or rows o []) n false ≡ table_follows? o n
-  table-looked-up h = looked-up (table-opener-row o h) ∙ table-follows o n h
+-- and in it an entry for each kind
+pub looked-up : (o n : ℕ) → o < 17 → n < 16 → get_or (get_or follows_rows o []) n false ≡ (follows? o n || table_follows? o n)
+looked-up o n h k =
+    ap (λ (row : List Bool). get_or row n false) (get_or-map-range_with_len follows_row 0 17 o o [] h (zero-add o))
+    ∙ get_or-map-range_with_len (λ (n : ℕ). follows? o n || table_follows? o n) 0 16 n n false k (zero-add n)
 
 -- a head stands first, and nothing else does
 pub head_first : (o n : ℕ) → follows? o n ≡ true → eqb o (number none) ≡ eqb n (number head)

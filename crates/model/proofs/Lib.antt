@@ -1,11 +1,9 @@
 -- The laws of `model`: words, the pass over them, the index and the answer; proofs of functions stand in folders of their own.
 pub mod FieldLaws
-pub mod TableRule
 pub mod KindLaws
+pub mod TableKindLaws
 pub mod WordChecks
-pub mod Run
 pub mod Limits
-pub mod ScanLaws
 pub mod Checking
 pub mod Counts
 pub mod Entries

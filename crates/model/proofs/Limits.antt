@@ -3,7 +3,7 @@ use Prim.Native.Nat.{ℕ, ◌+◌, ◌*◌, ◌^◌, ◌≤◌, ◌<◌}
 use mathlib.Core.Path.{◌≡◌, refl, subst}
 use mathlib.Core.Bool.{Bool, true, false, cond, ◌&&◌}
 use native.Mathlib.Omega.{arith}
-use borrow.Author.Tests.{ltb-true, leb-true, eqb-true}
+use borrow.Author.Tests.{ltb-true, leb-true}
 use lib.Dec.{eqb, leb}
 use Rattle.std.proofs.Common.{Result, Ok, Err}
 use Rattle.answers.specs.declared.Reason.{Reason}
@@ -12,7 +12,7 @@ use Rattle.zone.specs.Words.{bits, kind, bound_of, good_bound?}
 use Rattle.zone.specs.Questions.{clocks?}
 use Rattle.zone.proofs.Bools.{false_true, left_true, right_true}
 use Rattle.zone.proofs.WordLaws.{good-first, good-second}
-use Rattle.model.specs.Kinds.{Kind, none, head, location, action, edge, bound, start, number, is, kind_of}
+use Rattle.model.specs.Kinds.{Kind, none, head, location, action, edge, bound, start, number, kind_of}
 use Rattle.model.specs.Grammar.{numbered?, follows?}
 use Rattle.model.specs.Fields.{clocks_of, denominator_of, head_fields?, fields?}
 use Rattle.model.specs.Reading.{limit?}
@@ -20,7 +20,7 @@ use Rattle.model.specs.Openers.{opener?, edge_may_follow?}
 use Rattle.model.specs.Scan.{nothing, fields_at?, limit_at?, adds_at?, checked, zone_count}
 use Rattle.model.specs.Scan.{with_head, with_location, with_action, with_edge, with_start, seen_with_kind, seen_with, WithinLimits}
 use Rattle.model.specs.declared.seen.Seen.{Seen}
-use Rattle.model.proofs.KindLaws.{kind-is, by_kind, before-edge}
+use Rattle.model.proofs.KindLaws.{by_kind, before-edge}
 
 -- ---- a word that fails no check
 
@@ -53,8 +53,8 @@ passes s w h =
     (λ e. false_true e) (λ k n e. n) all.1 in
     record { named = named; follows = rw (← named) all.0; fields = all.1; limit = all.2; adds = all.3 }
 
-pub passes_as : (k : Kind) (s : Seen) (w : ℕ) → kind w ≡ number k → checked s w ≡ Ok tt → Passes k s w
-passes_as k s w e h = subst (λ (k : Kind). Passes k s w) (kind-is k w e) (passes s w h)
+pub passes_as : (k : Kind) (s : Seen) (w : ℕ) → kind_of w ≡ k → checked s w ≡ Ok tt → Passes k s w
+passes_as k s w e h = subst (λ (k : Kind). Passes k s w) e (passes s w h)
 
 -- ---- a word more
 
@@ -112,28 +112,32 @@ pub limits_with : (s : Seen) (w p : ℕ) → WithinLimits s → checked s w ≡ 
 unfolding seen_with
 limits_with s w p h f = limits-kind (kind_of w) s w p h (passes s w f)
 
--- ---- what a word that fails no check says
+-- ---- what a word of a kind that fails no check says
 module _ (s : Seen) (w : ℕ) (h : WithinLimits s) (f : checked s w ≡ Ok tt) where
   -- there is room for it
-  pub room-location : kind w ≡ number location → s.locations < 16
+  pub room_location : kind_of w ≡ location → s.locations < 16
   unfolding limit?
-  room-location e = ltb-true _ _ (passes_as location s w e f).limit
+  room_location e = ltb-true _ _ (passes_as location s w e f).limit
 
-  pub room-action : kind w ≡ number action → s.actions < 32
+  pub room_action : kind_of w ≡ action → s.actions < 32
   unfolding limit?
-  room-action e = ltb-true _ _ (passes_as action s w e f).limit
+  room_action e = ltb-true _ _ (passes_as action s w e f).limit
 
-  pub room-edge : kind w ≡ number edge → s.edges < 128
-  room-edge e = let room = edge-room s w h (passes_as edge s w e f) in omega arith
+  pub room_edge : kind_of w ≡ edge → s.edges < 128
+  room_edge e = let room = edge-room s w h (passes_as edge s w e f) in omega arith
 
   -- a bound is good
-  pub good-bound : is bound w ≡ true → good_bound? s.clocks w ≡ true
+  pub good_bound : kind_of w ≡ bound → good_bound? s.clocks w ≡ true
   unfolding good_bound? fields?
-  good-bound e = rw e (left_true _ _ (passes_as bound s w (eqb-true _ _ e) f).fields)
+  good_bound e = let g = passes_as bound s w e f in rw g.named (left_true _ _ g.fields)
 
   -- and its cell is one of the table's
-  pub bound-cell : is bound w ≡ true → ((bound_of w).i < 5) × ((bound_of w).j < 5)
-  bound-cell e =
-      let first = good-first s.clocks w (good-bound e) in
-      let second = good-second s.clocks w (good-bound e) in
+  pub bound_cell : kind_of w ≡ bound → ((bound_of w).i < 5) × ((bound_of w).j < 5)
+  bound_cell e =
+      let first = good-first s.clocks w (good_bound e) in
+      let second = good-second s.clocks w (good_bound e) in
       omega arith
+
+  -- with it the limits hold on
+  pub limits_as : (k : Kind) {t : Seen} (p : ℕ) → kind_of w ≡ k → t ≡ seen_with_kind k s w p → WithinLimits t
+  limits_as k p e q = rw q (limits-kind k s w p h (passes_as k s w e f))

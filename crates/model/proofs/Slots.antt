@@ -14,16 +14,17 @@ use Rattle.model.specs.Kinds.{Kind, none, head, location, action, edge, bound, s
 use Rattle.model.specs.Grammar.{follows, numbered?, may_follow?, follows?}
 use Rattle.model.specs.Model.{Parts, parts_of, parts_with}
 use Rattle.model.specs.Scan.{guards_at, start_bounds_at, zone_count, WithinLimits, seen_with, seen_with_kind}
-use Rattle.model.specs.Index.{Kept, kept_with_kind, kept_with}
+use Rattle.model.specs.Index.{steps, kept_with_kind, kept_with, closed}
+use Rattle.model.specs.declared.index.IndexedModel.{IndexedModel}
 use Rattle.model.specs.Indexed.{with_bounds}
 use Rattle.model.specs.declared.seen.Seen.{Seen}
-use Rattle.model.proofs.Run.{kept_end}
+use Rattle.pass.proofs.Run.{kept_end}
 use Rattle.model.proofs.Entries.{lengths_with}
 use Rattle.model.proofs.Walk.{Bounded, Step, a-head, a-location, an-action, an-edge, a-bound, a-start, Walk, never, no-bounds}
 
 -- a word changes the slot of the opener behind it alone, and only if a bound may follow there
 same_with :
-    (k : Kind) (s : Seen) (w p q : ℕ) (m : Kept) → Step s w k → (Bounded (seen_with_kind k s w p) → q ≢ (seen_with_kind k s w p).slot) →
+    (k : Kind) (s : Seen) (w p q : ℕ) (m : IndexedModel) → Step s w k → (Bounded (seen_with_kind k s w p) → q ≢ (seen_with_kind k s w p).slot) →
     zone_at (kept_with_kind k s w m).zones q ≡ zone_at m.zones q
 unfolding kept_with_kind seen_with_kind follows? may_follow? numbered? follows
 same_with head s w p q m (a-head z) n = refl
@@ -100,8 +101,8 @@ settled_with k s w p q h t n b = record { behind = behind_with k s w p q b; apar
 
 -- a settled slot stays as it is to the end
 settled-end :
-    (s : Seen) (p q : ℕ) (m : Kept) (ws : List ℕ) → Walk s p ws → Settled s q → zone_at (kept_end s m p ws).zones q ≡ zone_at m.zones q
-unfolding kept_end kept_with seen_with
+    (s : Seen) (p q : ℕ) (m : IndexedModel) (ws : List ℕ) → Walk s p ws → Settled s q → zone_at (kept_end steps s m p ws).zones q ≡ zone_at m.zones q
+unfolding kept_end kept_with seen_with closed
 settled-end s p q m [] r a = refl
 settled-end s p q m (w ∷ ws) r a =
     let next : Settled (seen_with s w p) q = settled_with (kind_of w) s w p q r.0 r.2 (λ e. a.apart) a.behind in
@@ -117,7 +118,7 @@ behind-slot s (at-start e l) b n = absurd (n e)
 behind-slot s (nowhere m) b n = absurd (m b)
 
 module _
-    (s : Seen) (w p : ℕ) (m end : Kept) (P : Parts) (h : WithinLimits s) (o : Opened s) (z : zone_count ≤ length m.zones) (b : Bounded s)
+    (s : Seen) (w p : ℕ) (m end : IndexedModel) (P : Parts) (h : WithinLimits s) (o : Opened s) (z : zone_count ≤ length m.zones) (b : Bounded s)
   where
     -- behind a word that is no bound, the slot of the opener before it is settled
     kept-own :
@@ -148,13 +149,13 @@ module _
     own-with none x4 f own e = elim x4 [ ]
 
 pub own-end :
-    (s : Seen) (p : ℕ) (m : Kept) (ws : List ℕ) → Walk s p ws → Opened s → zone_count ≤ length m.zones → Bounded s →
-    zone_at (kept_end s m p ws).zones s.slot ≡ with_bounds (parts_of ws).bounds (zone_at m.zones s.slot)
-unfolding kept_end kept_with parts_of with_bounds seen_with
+    (s : Seen) (p : ℕ) (m : IndexedModel) (ws : List ℕ) → Walk s p ws → Opened s → zone_count ≤ length m.zones → Bounded s →
+    zone_at (kept_end steps s m p ws).zones s.slot ≡ with_bounds (parts_of ws).bounds (zone_at m.zones s.slot)
+unfolding kept_end kept_with parts_of with_bounds seen_with closed
 own-end s p m [] r o z b = refl
 own-end s p m (w ∷ ws) r o z b =
     let l = lengths_with (kind_of w) s w m in
-    own-with s w p m (kept_end (seen_with s w p) (kept_with s w m) (suc p) ws) (parts_of ws) r.0 o z b (kind_of w) r.2
+    own-with s w p m (kept_end steps (seen_with s w p) (kept_with s w m) (suc p) ws) (parts_of ws) r.0 o z b (kind_of w) r.2
     (λ q. settled-end (seen_with s w p) (suc p) q (kept_with s w m) ws r.3)
     (own-end (seen_with s w p) (suc p) (kept_with s w m) ws r.3 (opened_with (kind_of w) s w p o) (omega arith))
     (no-bounds (seen_with s w p) (suc p) ws r.3)

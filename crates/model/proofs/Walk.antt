@@ -5,7 +5,7 @@ use mathlib.Core.Logic.{◌≢◌}
 use mathlib.Core.Bool.{true, false}
 use mathlib.Core.List.{List, [], ◌∷◌}
 use native.Mathlib.Omega.{arith}
-use borrow.Author.Tests.{eqb-true, eq-eqb}
+use borrow.Author.Tests.{eqb-true}
 use Rattle.std.proofs.Common.{Ok}
 use Rattle.zone.specs.Words.{kind, bound_of}
 use Rattle.zone.proofs.Bools.{false_true}
@@ -16,9 +16,10 @@ use Rattle.model.specs.Model.{Parts, parts_of, parts_with}
 use Rattle.model.specs.Scan.{WithinLimits, checked, seen_with, seen_with_kind}
 use Rattle.model.specs.declared.seen.Seen.{Seen}
 use Rattle.model.proofs.Counts.{ends}
-use Rattle.model.proofs.KindLaws.{head_first}
-use Rattle.model.proofs.Run.{Run, seen_end}
-use Rattle.model.proofs.Limits.{Passes, passes, limits_with, room-location, room-action, room-edge, bound-cell}
+use Rattle.model.proofs.KindLaws.{kind_is, head_first}
+use Rattle.model.specs.Index.{steps}
+use Rattle.pass.proofs.Run.{Run, seen_end}
+use Rattle.model.proofs.Limits.{Passes, passes, limits_with, room_location, room_action, room_edge, bound_cell}
 
 -- a bound may follow what was seen
 abbrev pub Bounded : Seen → Type 0
@@ -41,11 +42,11 @@ step_of : (k : Kind) (s : Seen) (w : ℕ) → WithinLimits s → checked s w ≡
 unfolding fields? follows? may_follow? numbered? follows
 step_of none s w h f g = false_true g.fields
 step_of head s w h f g = a-head (eqb-true (number s.opener) (number none) (head_first (number s.opener) (number head) g.follows))
-step_of location s w h f g = a-location (never (number s.opener) location start g.follows refl) (room-location s w h f g.named)
-step_of action s w h f g = an-action (never (number s.opener) action start g.follows refl) (room-action s w h f g.named)
+step_of location s w h f g = a-location (never (number s.opener) location start g.follows refl) (room_location s w h f (kind_is location w g.named))
+step_of action s w h f g = an-action (never (number s.opener) action start g.follows refl) (room_action s w h f (kind_is action w g.named))
 step_of edge s w h f g =
-    an-edge (never (number s.opener) edge start g.follows refl) (never (number s.opener) edge location g.follows refl) (room-edge s w h f g.named)
-step_of bound s w h f g = let cell = bound-cell s w h f (eq-eqb (kind w) (number bound) g.named) in a-bound g.follows cell.0 cell.1
+    an-edge (never (number s.opener) edge start g.follows refl) (never (number s.opener) edge location g.follows refl) (room_edge s w h f (kind_is edge w g.named))
+step_of bound s w h f g = let cell = bound_cell s w h f (kind_is bound w g.named) in a-bound g.follows cell.0 cell.1
 step_of start s w h f g = a-start (never (number s.opener) start start g.follows refl)
 
 -- no word fails a check, and none is missing at the end; what was seen is within the limits all along
@@ -53,13 +54,13 @@ abbrev pub Walk : Seen → ℕ → List ℕ → Type 0
 Walk s p [] = WithinLimits s × (number s.opener ≡ number start)
 Walk s p (w ∷ ws) = WithinLimits s × (kind w ≡ number (kind_of w)) × Step s w (kind_of w) × Walk (seen_with s w p) (suc p) ws
 
-pub walk_of : (s : Seen) (p : ℕ) (ws : List ℕ) → WithinLimits s → Run s p ws → Walk s p ws
+pub walk_of : (s : Seen) (p : ℕ) (ws : List ℕ) → WithinLimits s → Run steps s p ws → Walk s p ws
 walk_of s p [] h r = (h, ends s r)
 walk_of s p (w ∷ ws) h r =
     let g : Passes (kind_of w) s w = passes s w r.0 in
     (h, g.named, step_of (kind_of w) s w h r.0 g, walk_of (seen_with s w p) (suc p) ws (limits_with s w p h r.0) r.1)
 
-pub limits-end : (s : Seen) (p : ℕ) (ws : List ℕ) → Walk s p ws → WithinLimits (seen_end s p ws)
+pub limits-end : (s : Seen) (p : ℕ) (ws : List ℕ) → Walk s p ws → WithinLimits (seen_end steps s p ws)
 unfolding seen_end
 limits-end s p [] r = r.0
 limits-end s p (w ∷ ws) r = limits-end (seen_with s w p) (suc p) ws r.3
@@ -122,8 +123,8 @@ last_with s end w p bound P e (a-bound b i j) ih =
 last_with s end w p start P e (a-start n) ih = absurd (n e)
 last_with s end w p none P e x3 ih = elim x3 [ ]
 
-pub last_of : (s : Seen) (p : ℕ) (ws : List ℕ) → Walk s p ws → number s.opener ≡ number start → Last (parts_of ws) s (seen_end s p ws)
+pub last_of : (s : Seen) (p : ℕ) (ws : List ℕ) → Walk s p ws → number s.opener ≡ number start → Last (parts_of ws) s (seen_end steps s p ws)
 unfolding parts_of seen_end seen_with
 last_of s p [] r e = record { edges = refl; actions = refl; locations = refl; start = refl }
 last_of s p (w ∷ ws) r e =
-    last_with s (seen_end (seen_with s w p) (suc p) ws) w p (kind_of w) (parts_of ws) e r.2 (last_of (seen_with s w p) (suc p) ws r.3)
+    last_with s (seen_end steps (seen_with s w p) (suc p) ws) w p (kind_of w) (parts_of ws) e r.2 (last_of (seen_with s w p) (suc p) ws r.3)

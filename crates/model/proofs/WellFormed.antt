@@ -25,13 +25,13 @@ use Rattle.model.specs.Before.{count_of}
 use Rattle.model.specs.Reading.{adds?, edge_checks, model_checks, counts_of, ReadModel}
 use Rattle.model.specs.Openers.{edge_may_follow?}
 use Rattle.model.specs.Scan.{nothing, adds_at?, seen_with, seen_with_kind, WithinLimits}
-use Rattle.model.specs.Index.{empty_index, keep}
+use Rattle.model.specs.Index.{steps, emptied}
 use Rattle.model.specs.declared.seen.Seen.{Seen}
 use Rattle.model.specs.declared.read.Counts.{Counts}
-use Rattle.model.proofs.KindLaws.{head_first, behind-edges}
-use Rattle.model.proofs.Run.{Run}
+use Rattle.model.proofs.KindLaws.{kind_is, head_first, behind-edges}
+use Rattle.pass.proofs.Run.{Run}
 use Rattle.model.proofs.Limits.{Passes, passes, passes_as, limits-nothing, limits_with, head-ranges}
-use Rattle.model.proofs.Entries.{no_words, no_keys, zeros-fit, numbers-end}
+use Rattle.model.proofs.Entries.{empty_model, sized-empty, numbers-end}
 use Rattle.model.proofs.Checking.{Headed, Agrees, Heads, agrees-nothing, agrees_with, begins, head-before, checks_of}
 use Rattle.model.proofs.Counts.{ends, counts_end}
 use Rattle.model.proofs.Indexing.{indexed}
@@ -171,7 +171,7 @@ module _ (M : Model) (positive : 1 ≤ M.denominator) where
 
   formed-from :
       (before : List ℕ) (s : Seen) (p : ℕ) (ws : List ℕ) → WithinLimits s → Agrees M.clocks M.denominator before s →
-      Heads M.clocks M.denominator before (get_or ws 0 0) → Run s p ws → AllHold (edge_checks (length M.locations) p ws) →
+      Heads M.clocks M.denominator before (get_or ws 0 0) → Run steps s p ws → AllHold (edge_checks (length M.locations) p ws) →
       Formed M s (parts_of ws)
   unfolding parts_of edge_checks seen_with numbered?
   formed-from before s p [] h a first r e =
@@ -185,23 +185,23 @@ module _ (M : Model) (positive : 1 ≤ M.denominator) where
 
 -- ---- the whole file
 
-first_head : (words : List ℕ) → Run nothing 0 words → head_fields? (get_or words 0 0) ≡ true
+first_head : (words : List ℕ) → Run steps nothing 0 words → head_fields? (get_or words 0 0) ≡ true
 unfolding fields?
 first_head [] r = absurd (omega (arith, ends nothing r))
 first_head (w ∷ ws) r =
     let g = passes nothing w r.0 in
     let named : kind w ≡ number head =
     g.named ∙ eqb-true (number (kind_of w)) (number head) (sym (head_first (number none) (number (kind_of w)) g.follows)) in
-    (passes_as head nothing w named r.0).fields
+    (passes_as head nothing w (kind_is head w named) r.0).fields
 
-pub well-formed : (words : List ℕ) → Run nothing 0 words → AllHold (edge_checks (count_of (number location) words) 0 words) → WellFormed (model_of words)
+pub well-formed : (words : List ℕ) → Run steps nothing 0 words → AllHold (edge_checks (count_of (number location) words) 0 words) → WellFormed (model_of words)
 unfolding model_of location_at
 well-formed words r e = record {
   clock = ranges.0;
   clocks = ranges.1;
   positive = ranges.2;
   denominator = omega arith;
-  start = start-exists words no_words no_keys zeros-fit r;
+  start = start-exists words empty_model sized-empty r;
   actions = λ l. all-at l parts.locations empty;
 }
   where
@@ -210,7 +210,7 @@ well-formed words r e = record {
 
     locations : count_of (number location) words ≡ length (model_of words).locations
     locations = sym (ap (λ (c : Counts). c.locations) (counts_end words r))
-        ∙ sym (numbers-end nothing (keep empty_index no_words no_keys) 0 words).locations ∙ (indexed words no_words no_keys zeros-fit r).locations
+        ∙ sym (numbers-end nothing (emptied empty_model) 0 words).locations ∙ (indexed words empty_model sized-empty r).locations
 
     parts : Formed (model_of words) nothing (parts_of words)
     parts =
@@ -219,10 +219,10 @@ well-formed words r e = record {
 
 -- ---- an accepted model
 module _ (words : List ℕ) (counts : Counts) (h : ReadModel words (accepted counts)) where
-  pub accepted-runs : Run nothing 0 words
+  pub accepted-runs : Run steps nothing 0 words
   unfolding answer_of
   accepted-runs =
-      accepted-run words no_words no_keys zeros-fit counts (read_one words _ (Ok counts) (answered words no_words no_keys zeros-fit) h)
+      accepted-run words empty_model sized-empty counts (read_one words _ (Ok counts) (answered words empty_model sized-empty) h)
 
   pub accepted-good : GoodModel (model_of words)
   accepted-good = good-model words accepted-runs

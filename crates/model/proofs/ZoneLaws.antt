@@ -1,12 +1,12 @@
 -- The zones of a model's words: good bounds, the square tables that stand for lists of them, and how often these can be tightened.
 -- Assumes nothing.
 use Prim.Native.Nat.{ℕ, zero, suc, ◌≤◌, ◌<◌}
-use mathlib.Core.Path.{◌≡◌, refl}
+use mathlib.Core.Path.{◌≡◌}
 use mathlib.Core.Bool.{true}
 use mathlib.Core.List.{List, [], ◌∷◌}
 use native.Mathlib.Omega.{arith}
 use lib.IntN.{nat_abs}
-use lib.ListN.{get_or, set, replicate}
+use lib.ListN.{get_or, set}
 use Rattle.zone.specs.Scale.{Bound, Zone, holds?, in?, Region, within}
 use Rattle.zone.specs.Words.{bound_of, bound_fields?}
 use Rattle.zone.specs.Squares.{universe, with_bound, Tightens}
@@ -67,11 +67,6 @@ pub tightens-bounds : (z : Zone) → GoodZone z → Tightens 3 (with_bounds z un
 tightens-bounds z g = tightens-on z g tightens-universe
 
 -- ---- the entries of an array
-pub same_at : {A : Type 0} (n q : ℕ) (a : A) → get_or (replicate n a) q a ≡ a
-same_at zero q a = refl
-same_at (suc n) zero a = refl
-same_at (suc n) (suc q) a = same_at n q a
-
 pub set_at : {A : Type 0} (P : A → Type 0) (d x : A) (l : List A) (i q : ℕ) → ((p : ℕ) → P (get_or l p d)) → P x → P (get_or (set l i x) q d)
 set_at P d x [] i q h g = h q
 set_at P d x (y ∷ l) zero zero h g = g

@@ -52,7 +52,7 @@ start_fields? locations w = eqb (bits 27 4 w) 0 && ltb (start_of w) locations
 
 -- the fields of a word of a kind are in their ranges and its spare bits zero. The file has C clocks and the denominator D; so many
 -- `locations` stand before the word, and `opener` is the number of the kind of the last word before it that is no bound
-unfoldable pub fields? : Kind → ℕ → ℕ → ℕ → ℕ → ℕ → Bool
+abbrev pub fields? : Kind → ℕ → ℕ → ℕ → ℕ → ℕ → Bool
 fields? none C D locations opener w = false
 fields? head C D locations opener w = head_fields? w
 fields? location C D locations opener w = location_fields? w

@@ -8,6 +8,7 @@ pub mod Model
 pub mod States
 pub mod Reading
 pub mod Openers
+pub mod Follows
 pub mod Scan
 pub mod Index
 pub mod Indexed

@@ -24,7 +24,7 @@ weights (w ∷ ws) = weight_of w + weights ws
 -- ---- word by word; a file has C clocks and the denominator D
 
 -- 3: at most 16 locations, 32 actions in the model, 4 edges in an action; so many stand before
-unfoldable pub limit? : Kind → ℕ → ℕ → ℕ → Bool
+abbrev pub limit? : Kind → ℕ → ℕ → ℕ → Bool
 limit? none locations actions edges = true
 limit? head locations actions edges = true
 limit? location locations actions edges = ltb locations 16
@@ -34,7 +34,7 @@ limit? bound locations actions edges = true
 limit? start locations actions edges = true
 
 -- 4: at the word after the last edge, the weights add to D
-unfoldable pub adds? : ℕ → ℕ → ℕ → ℕ → Bool
+abbrev pub adds? : ℕ → ℕ → ℕ → ℕ → Bool
 adds? D opener sum w = not (eqb opener (number edge)) || is edge w || eqb sum D
 
 -- at one word the lowest number wins. 1: its kind is allowed here. 2: its fields are in their ranges, its spare bits zero, and the start's

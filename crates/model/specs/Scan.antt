@@ -27,13 +27,13 @@ nothing =
       furthest = 0;
     }
 
-unfoldable pub fields_at? : Seen → ℕ → Bool
+abbrev pub fields_at? : Seen → ℕ → Bool
 fields_at? s w = fields? (kind_of w) s.clocks s.denominator s.locations (number s.opener) w
 
-unfoldable pub limit_at? : Seen → ℕ → Bool
+abbrev pub limit_at? : Seen → ℕ → Bool
 limit_at? s w = limit? (kind_of w) s.locations s.actions s.run
 
-unfoldable pub adds_at? : Seen → ℕ → Bool
+abbrev pub adds_at? : Seen → ℕ → Bool
 adds_at? s w = adds? s.denominator (number s.opener) s.weights w
 
 -- of the checks on a word, the reason of the first that it fails
@@ -51,7 +51,7 @@ checked s w =
 unfoldable pub checked_end : Seen → Result (Unit {0}) Reason
 checked_end s = cond (eqb (number s.opener) (number start)) (Ok tt) (Err reason.BadModelKind)
 
--- where the zones of a model stand in their store: the invariant of location l at slot l, the guard of action a at slot guards_at + a, the start
+-- where the zones of a model stand in what is kept of it: the invariant of location l at slot l, the guard of action a at slot guards_at + a, the start
 -- bounds at slot start_bounds_at
 abbrev pub guards_at : ℕ
 guards_at = 16
@@ -64,89 +64,26 @@ zone_count = 49
 
 -- what the words come to with a word more
 abbrev pub with_head : Seen → ℕ → Seen
-with_head s w =
-    record {
-      opener = head;
-      clocks = clocks_of w;
-      denominator = denominator_of w;
-      locations = s.locations;
-      actions = s.actions;
-      edges = s.edges;
-      run = s.run;
-      weights = s.weights;
-      slot = s.slot;
-      start = s.start;
-      place = s.place;
-      furthest = s.furthest;
-    }
+with_head s w = record s { opener = head; clocks = clocks_of w; denominator = denominator_of w }
 
 abbrev pub with_location : Seen → Seen
-with_location s =
-    record {
-      opener = location;
-      clocks = s.clocks;
-      denominator = s.denominator;
-      locations = s.locations + 1;
-      actions = s.actions;
-      edges = s.edges;
-      run = 0;
-      weights = 0;
-      slot = s.locations;
-      start = s.start;
-      place = s.place;
-      furthest = s.furthest;
-    }
+with_location s = record s { opener = location; locations = s.locations + 1; run = 0; weights = 0; slot = s.locations }
 
 abbrev pub with_action : Seen → Seen
-with_action s =
-    record {
-      opener = action;
-      clocks = s.clocks;
-      denominator = s.denominator;
-      locations = s.locations;
-      actions = s.actions + 1;
-      edges = s.edges;
-      run = 0;
-      weights = 0;
-      slot = guards_at + s.actions;
-      start = s.start;
-      place = s.place;
-      furthest = s.furthest;
-    }
+with_action s = record s { opener = action; actions = s.actions + 1; run = 0; weights = 0; slot = guards_at + s.actions }
 
 abbrev pub with_edge : Seen → ℕ → Seen
 with_edge s w =
-    record {
+    record s {
       opener = edge;
-      clocks = s.clocks;
-      denominator = s.denominator;
-      locations = s.locations;
-      actions = s.actions;
       edges = s.edges + 1;
       run = s.run + 1;
       weights = s.weights + weight_of w;
-      slot = s.slot;
-      start = s.start;
-      place = s.place;
       furthest = max s.furthest (lands_at w);
     }
 
 abbrev pub with_start : Seen → ℕ → ℕ → Seen
-with_start s w p =
-    record {
-      opener = start;
-      clocks = s.clocks;
-      denominator = s.denominator;
-      locations = s.locations;
-      actions = s.actions;
-      edges = s.edges;
-      run = 0;
-      weights = 0;
-      slot = start_bounds_at;
-      start = start_of w;
-      place = p;
-      furthest = s.furthest;
-    }
+with_start s w p = record s { opener = start; run = 0; weights = 0; slot = start_bounds_at; start = start_of w; place = p }
 
 unfoldable pub seen_with_kind : Kind → Seen → ℕ → ℕ → Seen
 seen_with_kind none s w p = s

@@ -2,10 +2,9 @@
 use Rattle.std.specs.Prelude.{ℕ, Bool, List, [], ◌∷◌, eqb}
 use Rattle.zone.specs.Words.{kind}
 use Rattle.model.specs.Kinds.{among}
-
 -- `no_kind` stands before the first word, and for a kind that is not a table's
-pub data TableKind : Type 0 where
-  no_kind table_head node node_bound value blocked successor start_node cut : TableKind
+pub use Rattle.model.specs.declared.table_kinds.TableKind.{TableKind}
+pub use Rattle.model.specs.declared.table_kinds.TableKind.TheVariants.{None as no_kind, Head as table_head, Node as node, Bound as node_bound, Value as value, Blocked as blocked, Successor as successor, StartNode as start_node, Cut as cut}
 
 -- the number of a kind. Document 01 has one constant table for both files, so what stands before a table has a number of its own; 16 is the
 -- kind of no word

@@ -71,22 +71,15 @@ pub fn weight_of(word: u32) -> u32
     words::bits::<15, 0>(word)
 }
 
-/// Whether a mask names clocks 1 to `clocks` alone.
-pub(crate) fn mask_fits(mask: u32, clocks: u32) -> bool
-    requires { clocks ≤ 4 }
-    ensures { result ≡ eqb (mask / 2 ^ clocks) 0 }
-{
-    mask >> clocks == 0
-}
-
-/// Whether the fields of an edge word are in their ranges and its spare bits zero.
+/// Whether the fields of an edge word are in their ranges and its spare bits zero, which the bits of clocks that there are not count among.
+// kept: `clocks` is a number at most 4 and no type of its own, since it is the head word's, and 0 before that is read.
 pub(crate) fn edge_fields(clocks: u32, denominator: u32, word: u32) -> bool
     requires { clocks ≤ 4 }
     ensures { result ≡ edge_fields? clocks denominator word }
 {
     let weight = weight_of(word);
     (words::bits::<27, 24>(word) == 0)
-        & mask_fits(mask_of(word), clocks)
+        & (mask_of(word) >> clocks == 0)
         & (1 <= weight)
         & (weight <= denominator)
 }
@@ -97,7 +90,7 @@ pub(crate) fn one_zero(word: u32) -> bool
 {
     let i = words::first_clock(word);
     let j = words::second_clock(word);
-    (i == 0) & !(j == 0) | !(i == 0) & (j == 0)
+    (i == 0) != (j == 0)
 }
 
 /// The number of the location that a start word gives.

@@ -1,13 +1,14 @@
-// The parts of a model by number: which location has which actions, and which action which edges.
-ghost use Rattle.std.specs.Prelude.{◌≤◌, ◌<◌, ◌≡◌};
-ghost use Rattle.model.specs.Scan.{WithinLimits};
-ghost use Rattle.model.specs.Index.{index_with_location, index_with_action, closed};
+// What is kept of a model: its parts by number, that is which location has which actions and which action which edges, its edge words and its zones.
+ghost use Rattle.std.specs.Prelude.{◌<◌, ◌≡◌};
+ghost use Rattle.model.specs.Index.{actions_range, edges_range};
 
-use crate::fields;
-use crate::seen::Seen;
+use std::ops::Range;
+use zone::zones::Zone;
 
-// The parts of a model, numbered through the file from 0. Location l has the actions from actions[l] up to actions[l + 1], action a the edges
-// from edges[a] up to edges[a + 1]. The words of the edges and the zones of the model stand beside it, in stores that the caller lends.
+/// The parts of a model, numbered through the file from 0. Location l has the actions from actions[l] up to actions[l + 1], action a the edges
+/// from edges[a] up to edges[a + 1]; `actions_of` and `edges_of` give these ranges.
+// kept: where a part ends the next one begins, so that one number each says all. Ranges in structs would say every number twice, be written again at
+// each action and each edge, and need a last entry as well. `targets` stands apart, since `actions` has one entry more than there are locations.
 #[derive(Clone, Copy, Debug, PartialEq, Eq)]
 pub struct Index {
     pub clocks: u32,
@@ -30,34 +31,38 @@ impl Index {
         edges: [0; 33],
     };
 
-    // Adds the location behind what was seen: whether it is a target, and where its actions begin.
-    pub(crate) fn add_location(&mut self, seen: &Seen, word: u32)
-        requires { (seen.now.locations < 16) × (seen.now.actions ≤ 32) }
-        ensures { self.new ≡ index_with_location seen.now word self.old }
+    /// The numbers of a location's actions.
+    pub fn actions_of(&self, location: usize) -> Range<usize>
+        requires { location < 16 }
+        ensures { result ≡ actions_range self.now location }
     {
-        self.targets[seen.locations] = fields::is_target(word);
-        self.actions[seen.locations] = seen.actions as u8;
+        self.actions[location] as usize..self.actions[location + 1] as usize
     }
 
-    // Adds the action behind what was seen: where its edges begin.
-    pub(crate) fn add_action(&mut self, seen: &Seen)
-        requires { (seen.now.actions ≤ 32) × (seen.now.edges ≤ 128) }
-        ensures { self.new ≡ index_with_action seen.now self.old }
+    /// The numbers of an action's edges.
+    pub fn edges_of(&self, action: usize) -> Range<usize>
+        requires { action < 32 }
+        ensures { result ≡ edges_range self.now action }
     {
-        self.edges[seen.actions] = seen.edges as u8;
+        self.edges[action] as usize..self.edges[action + 1] as usize
     }
+}
 
-    // Adds what the whole file comes to, and the ends of the last location and of the last action.
-    #[tactic(auto, unfolding(crate::specs::Index::closed))]
-    pub(crate) fn close(&mut self, seen: &Seen)
-        requires { WithinLimits seen.now }
-        ensures { self.new ≡ closed seen.now self.old }
-    {
-        self.clocks = seen.clocks;
-        self.denominator = seen.denominator;
-        self.locations = seen.locations;
-        self.start = seen.start;
-        self.actions[seen.locations] = seen.actions as u8;
-        self.edges[seen.actions] = seen.edges as u8;
-    }
+/// What is kept of a model: the numbers of its parts, the word of each edge, and its zones: the invariant of location l at l, the guard of action a
+/// at GUARDS + a, the start bounds at START_BOUNDS.
+// kept: the zones are one array, since a bound goes to the zone of the last opener, whatever its kind, by one number, `Seen::slot`.
+#[derive(Clone, Copy, Debug, PartialEq, Eq)]
+pub struct IndexedModel {
+    pub index: Index,
+    pub edges: [u32; 128],
+    pub zones: [Zone; 49],
+}
+
+impl IndexedModel {
+    /// Before a model is read into it. The zones are zeros, which fill faster than any other: each opener puts its own.
+    pub const EMPTY: IndexedModel = IndexedModel {
+        index: Index::EMPTY,
+        edges: [0; 128],
+        zones: [Zone::ZEROS; 49],
+    };
 }

@@ -1,17 +1,14 @@
 // What the words of a model read so far come to, and the checks of the next word.
-ghost use Rattle.std.specs.Prelude.{◌≡◌};
-ghost use Rattle.zone.specs.Words.{kind};
-ghost use Rattle.model.specs.Kinds.{bound, number, kind_of};
-ghost use Rattle.model.specs.Grammar.{follows?};
+ghost use Rattle.std.specs.Prelude.{◌≡◌, ◌≤◌, ◌*◌, ◌^◌};
+ghost use Rattle.model.specs.Kinds.{bound, number};
 ghost use Rattle.model.specs.Fields.{fields?};
-ghost use Rattle.model.specs.Scan.{WithinLimits, fields_at?, limit_at?, adds_at?, checked, checked_end};
-ghost use Rattle.model.specs.Scan.{with_head, with_location, with_action, with_edge, with_start, seen_with};
+ghost use Rattle.model.specs.Scan.{fields_at?, limit_at?, adds_at?};
+ghost use Rattle.model.specs.Scan.{with_head, with_location, with_action, with_edge, with_start};
 ghost use Rattle.model.specs.Index.{counts_at};
 
 use crate::kinds::Kind;
 use crate::read::Counts;
 use crate::{fields, places};
-use answers::Reason;
 use zone::words;
 
 // What the words read so far come to, for the checks of the next word and for the index.
@@ -56,8 +53,9 @@ impl Seen {
     }
 
     // Whether the fields of a word are in their ranges and its spare bits zero.
+    // kept: `clocks` is a number at most 4, as at `fields::edge_fields`.
     pub(crate) fn fields(&self, word: u32) -> bool
-        requires { WithinLimits self.now }
+        requires { self.now.clocks ≤ 4 }
         ensures { result ≡ fields_at? self.now word }
     {
         match Kind::of(word) {
@@ -84,61 +82,11 @@ impl Seen {
     }
 
     // Whether the weights of the last action add to the denominator, where the word is the one after its last edge.
+    #[tactic(auto, using(crate::proofs::KindLaws::same_edge))]
     pub(crate) fn adds(&self, word: u32) -> bool
         ensures { result ≡ adds_at? self.now word }
     {
-        !(self.opener == Kind::Edge)
-            | (Kind::of(word) == Kind::Edge)
-            | (self.weights == self.denominator)
-    }
-
-    // The checks on a bound word: it has no limit, and no weights end before it. Most words of a long file are bounds, so they are asked no
-    // more than that.
-    pub(crate) fn check_bound(&self, allowed: bool, word: u32) -> Result<(), Reason>
-        requires { (kind_of word ≡ bound) × (allowed ≡ follows? (number self.now.opener) (kind word)) }
-        ensures { result ≡ checked self.now word }
-    {
-        if !allowed {
-            return Err(Reason::BadModelKind);
-        }
-        if !self.bound_fields(word) {
-            return Err(Reason::BadModelField);
-        }
-        Ok(())
-    }
-
-    // The checks on a word, where the constant table says whether it is allowed behind the opener.
-    pub(crate) fn check(&self, allowed: bool, word: u32) -> Result<(), Reason>
-        requires { WithinLimits self.now × (allowed ≡ follows? (number self.now.opener) (kind word)) }
-        ensures { result ≡ checked self.now word }
-    {
-        if Kind::of(word) == Kind::Bound {
-            return self.check_bound(allowed, word);
-        }
-        if !allowed {
-            return Err(Reason::BadModelKind);
-        }
-        if !self.fields(word) {
-            return Err(Reason::BadModelField);
-        }
-        if !self.limit(word) {
-            return Err(Reason::OverModelLimit);
-        }
-        if !self.adds(word) {
-            return Err(Reason::BadWeights);
-        }
-        Ok(())
-    }
-
-    // The check at the end of the words: unless the start was read, a word is missing.
-    #[tactic(auto, unfolding(crate::specs::Scan::checked_end))]
-    pub(crate) fn check_end(&self) -> Result<(), Reason>
-        ensures { result ≡ checked_end self.now }
-    {
-        if self.opener != Kind::Start {
-            return Err(Reason::BadModelKind);
-        }
-        Ok(())
+        !(self.opener == Kind::Edge) | Kind::Edge.is(word) | (self.weights == self.denominator)
     }
 
     // Adds a head word.
@@ -151,8 +99,9 @@ impl Seen {
     }
 
     // Adds a location.
+    // kept: what this, `add_action` and `add_start` share is four assignments; a function of them would need a definition of its own to promise.
     pub(crate) fn add_location(&mut self)
-        requires { WithinLimits self.old }
+        requires { self.old.locations ≤ 16 }
         ensures { self.new ≡ with_location self.old }
     {
         self.opener = Kind::Location;
@@ -164,7 +113,7 @@ impl Seen {
 
     // Adds an action.
     pub(crate) fn add_action(&mut self)
-        requires { WithinLimits self.old }
+        requires { self.old.actions ≤ 32 }
         ensures { self.new ≡ with_action self.old }
     {
         self.opener = Kind::Action;
@@ -176,7 +125,7 @@ impl Seen {
 
     // Adds an edge word.
     pub(crate) fn add_edge(&mut self, word: u32)
-        requires { WithinLimits self.old }
+        requires { (self.old.edges ≤ 128) × (self.old.run ≤ 4) × (self.old.weights ≤ 4 * 2 ^ 16) }
         ensures { self.new ≡ with_edge self.old word }
     {
         self.opener = Kind::Edge;
@@ -196,22 +145,6 @@ impl Seen {
         self.slot = places::START_BOUNDS;
         self.start = fields::start_of(word);
         self.place = place;
-    }
-
-    // Adds a word at a place. A bound changes nothing here.
-    #[tactic(auto, unfolding(crate::specs::Scan::seen_with, crate::specs::Scan::seen_with_kind))]
-    pub(crate) fn add(&mut self, word: u32, place: usize)
-        requires { WithinLimits self.old }
-        ensures { self.new ≡ seen_with self.old word place }
-    {
-        match Kind::of(word) {
-            Kind::Head => self.add_head(word),
-            Kind::Location => self.add_location(),
-            Kind::Action => self.add_action(),
-            Kind::Edge => self.add_edge(word),
-            Kind::Start => self.add_start(word, place),
-            Kind::Bound | Kind::None => {}
-        }
     }
 
     // How many locations, actions and edges there are.

@@ -25,17 +25,19 @@ impl Slot {
     };
 }
 
-/// The slots that a caller lends, by value, where they are 16.
-pub fn load(slots: &[Slot]) -> Option<[Slot; 16]>
+/// The slots that a caller lends, by value, or how many there are where they are not 16.
+// kept: the number in the Err, which no code reads, since this promise has always said how many there are
+pub fn load(slots: &[Slot]) -> Result<[Slot; 16], usize>
     ensures { Loads slots.now result }
 {
-    <[Slot; 16]>::try_from(slots).ok()
+    <[Slot; 16]>::try_from(slots).map_err(|_| slots.len())
 }
 
 /// Writes one slot, at a place that is there; elsewhere nothing is written.
 pub fn put(slots: &mut [Slot], at: usize, slot: Slot)
     ensures { slots.new ≡ set slots.old at slot }
 {
+    // kept: with no `get_mut`, since nothing is known of what a write through it leaves
     if at < slots.len() {
         slots[at] = slot;
     }

@@ -1,15 +1,12 @@
 -- The pass decides the checks 11 to 14. Assumes nothing.
-use Prim.Native.Nat.{ℕ, suc, ◌+◌}
+use Prim.Native.Nat.{ℕ, suc}
 use mathlib.Core.Path.{◌≡◌, refl, ap, ◌∙◌}
 use mathlib.Core.Logic.{inl, inr}
-use mathlib.Core.Bool.{Bool, true, false, not, cond, ◌&&◌, ◌||◌}
+use mathlib.Core.Bool.{Bool, true, false, ◌&&◌}
 use mathlib.Core.List.{List, [], ◌∷◌, ◌++◌, reverse_aux}
-use native.Mathlib.Nat.{zero-add}
 use native.Mathlib.Omega.{arith}
-use lib.Dec.{eqb, ltb, leb}
-use Rattle.std.proofs.lemmas.Bool.Decides.{nat_tests}
-use Rattle.std.proofs.Common.{Result, Ok, Option, Some, None}
-use Rattle.std.specs.List.{position_or_len}
+use lib.Dec.{eqb}
+use Rattle.std.proofs.Common.{Result, Ok}
 use Rattle.answers.specs.Refusals.{number, answer_of}
 use Rattle.answers.specs.declared.Reason.{Reason}
 use Rattle.answers.specs.declared.Refusal.{Refusal}
@@ -17,27 +14,30 @@ use lib.ListN.{get_or, length}
 use Rattle.zone.specs.Words.{kind}
 use Rattle.answers.specs.Checks.{Answer, Check, test, First}
 use Rattle.zone.proofs.Bools.{left_true}
-use Rattle.model.specs.TableKinds.{TableKind, no_kind, table_head, node, successor, start_node, cut, is_table, table_kind_of, table_number}
+use Rattle.model.specs.declared.table_kinds.TableKind.{TableKind}
+use Rattle.model.specs.declared.table_kinds.TableKind.TheVariants.{None as no_kind, Head as table_head, Node as node, StartNode as start_node, Cut as cut}
+use Rattle.model.specs.TableKinds.{table_kind_of, table_number}
 use Rattle.model.specs.Before.{opener_from, count_of}
 use Rattle.model.specs.Grammar.{table_follows, numbered?, table_follows?}
 use Rattle.model.specs.Model.{Model}
 use Rattle.model.specs.Indexed.{Indexed}
 use Rattle.model.proofs.Counts.{count_reversed}
 use Rattle.model.specs.declared.index.Index.{Index}
-use Rattle.model.specs.Index.{Kept as ModelKept}
-use Rattle.table.specs.Fields.{whole_of, number_of, fields?}
+use Rattle.model.specs.declared.index.IndexedModel.{IndexedModel}
+use Rattle.table.specs.Fields.{whole_of, fields?}
 use Rattle.table.specs.Reading.{due, rows_allow?, limit?, word_checks, words_checks, number_checks, read_checks}
 use Rattle.table.specs.Scan.{nothing, row_openers, rows_allow_kind?, rows_allow_at?, fields_at?, limit_at?, checked, checked_end, seen_with}
-use Rattle.table.specs.Index.{Kept, keep, kept_with, Pass, pass_at, unless_refused, scan_from, scanned, lacks_node?, unless_missing, read_of}
+use Rattle.table.specs.Nodes.{begun}
+use Rattle.table.specs.Index.{kept_with, steps, scanned, and_numbers, read_of}
 use Rattle.table.specs.declared.seen.Seen.{Seen}
-use Rattle.table.specs.declared.read.TableRead.{TableRead}
-use Rattle.table.proofs.KindLaws.{kind-is, by_kind}
-use Rattle.table.proofs.Run.{Run, seen_end, goes, run_of, ended}
+use Rattle.model.proofs.TableKindLaws.{kind-is, by_kind}
+use Rattle.pass.specs.Steps.{Passed, passed_at, unless_refused, pass_end, pass_from}
+use Rattle.pass.proofs.Run.{Run, seen_end, goes, run_of, ended}
 use Rattle.table.proofs.Passing.{first_refused, behind}
+use Rattle.table.proofs.Missing.{numbers-first}
 use Rattle.table.proofs.Rows.{same_rows}
 use Rattle.table.proofs.Agreeing.{Agrees, Begins, here, there, Heads, agrees-nothing, begins, agrees_with}
-use Rattle.zone.specs.declared.zones.Zone.{Zone as Square}
-use Rattle.table.specs.declared.nodes.NodeEntry.{NodeEntry}
+use Rattle.table.specs.declared.nodes.IndexedTable.{IndexedTable}
 
 -- ---- a word's checks
 
@@ -56,33 +56,32 @@ module _ (M : Model) (whole : ℕ) (before : List ℕ) (w : ℕ) where
   abbrev under? : Bool
   under? = limit? (table_kind_of w) (count_of (table_number node) before)
 
-module _ (M : Model) (m : ModelKept) (i : Indexed M m) (whole : ℕ) (before : List ℕ) (s : Seen) (w : ℕ) where
+module _ (M : Model) (m : IndexedModel) (i : Indexed M m) (whole : ℕ) (before : List ℕ) (s : Seen) (w : ℕ) where
   abbrev x : Index
   x = m.index
 
-  same-fields : Begins whole before s (kind w) → fields_at? s x.clocks x.locations w ≡ field? M whole before w
-  unfolding fields_at? fields?
+  same-fields : Begins whole before s (kind w) → fields_at? x s w ≡ field? M whole before w
   same-fields (here e o n) = rw (kind-is table_head w n)
   same-fields (there h n) = rw (h.whole, i.clocks, i.locations)
 
   -- where a cut may follow, both know whether the location is a target
-  same-kinds : Agrees M m whole before s → (table_follows? s.opener (kind w) && rows_allow_at? s w) ≡ kind? M whole before w
-  unfolding rows_allow_at? table_follows numbered?
-  same-kinds a = rw (← a.tallies.opener) (by (table_follows? s.opener (kind w)) refl)
+  same-kinds : Agrees M m whole before s → (table_follows? (table_number s.opener) (kind w) && rows_allow_at? s w) ≡ kind? M whole before w
+  unfolding table_follows numbered?
+  same-kinds a = rw (← a.tallies.opener) (by (table_follows? (table_number s.opener) (kind w)) refl)
     where
       named : table_number (table_kind_of w) ≡ table_number cut → kind w ≡ table_number cut
       named = by_kind (λ (k : TableKind). table_number k ≡ table_number cut → kind w ≡ table_number cut) w (λ e. absurd (omega arith)) (λ k n e. n ∙ e)
 
-      by : (c : Bool) → table_follows? s.opener (kind w) ≡ c →
+      by : (c : Bool) → table_follows? (table_number s.opener) (kind w) ≡ c →
           (c && rows_allow_kind? (table_kind_of w) s) ≡ (c && rows_allow? (table_kind_of w) (due M before))
-      by true f = same_rows m (due M before) s a.rows (table_kind_of w) λ e. a.target (behind cut s.opener (rw (named e) at f) row_openers tt)
+      by true f = same_rows m (due M before) s a.rows (table_kind_of w) λ e. a.target (behind cut (table_number s.opener) (rw (named e) at f) row_openers tt)
       by false f = refl
 
   check_is : Agrees M m whole before s →
-      checked s x.clocks x.locations w ≡ first_refused (kind? M whole before w) (field? M whole before w) (under? M whole before w)
-  unfolding checked rows_allow_at? limit_at?
+      checked x s w ≡ first_refused (kind? M whole before w) (field? M whole before w) (under? M whole before w)
+  unfolding checked
   check_is a =
-      same-checks (table_follows? s.opener (kind w) && rows_allow_at? s w) (fields_at? s x.clocks x.locations w) (limit_at? s w)
+      same-checks (table_follows? (table_number s.opener) (kind w) && rows_allow_at? s w) (fields_at? x s w) (limit_at? s w)
       (kind? M whole before w) (field? M whole before w) (under? M whole before w)
       (same-kinds a)
       (rw a.tallies.nodes)
@@ -91,20 +90,20 @@ module _ (M : Model) (m : ModelKept) (i : Indexed M m) (whole : ℕ) (before : L
 -- ---- the pass
 
 -- an acceptance has no value to judge
-abbrev any : TableRead → Type 0
+abbrev any : Unit {0} → Type 0
 any t = Unit {0}
 
 -- what reading the words answers, where the pass comes to this
-abbrev answered : List ℕ → Result Seen Refusal → Answer TableRead
-answered words o = answer_of (read_of o words)
+abbrev answered : List ℕ → Result Seen Refusal → Answer (Unit {0})
+answered words o = answer_of (and_numbers o words)
 
 module _ (more : List Check) (words : List ℕ) where
   -- at a word
   step-first :
-      (a b c : Bool) (r : Result (Unit {0}) Reason) → r ≡ first_refused a b c → (k : Kept) (p : ℕ) (go : Pass) →
+      (a b c : Bool) (r : Result (Unit {0}) Reason) → r ≡ first_refused a b c → (k : IndexedTable) (p : ℕ) (go : Passed Seen IndexedTable) →
       (r ≡ Ok tt → First more any (answered words go.outcome)) →
       First (test 11 p a ∷ test 12 p b ∷ test 13 p c ∷ more) any (answered words (unless_refused r p k go).outcome)
-  unfolding unless_refused read_of answer_of number
+  unfolding unless_refused and_numbers answer_of number
   step-first true true true r e k p go h = rw e (inl (tt, inl (tt, inl (tt, h e))))
   step-first true true false r e k p go h = rw e (inl (tt, inl (tt, inr (λ t. t, refl))))
   step-first true false c r e k p go h = rw e (inl (tt, inr (λ t. t, refl)))
@@ -112,10 +111,10 @@ module _ (more : List Check) (words : List ℕ) where
 
   -- at the end
   last-first :
-      (c : Bool) (r : Result (Unit {0}) Reason) → r ≡ first_refused c true true → (k : Kept) (p : ℕ) (go : Pass) →
+      (c : Bool) (r : Result (Unit {0}) Reason) → r ≡ first_refused c true true → (k : IndexedTable) (p : ℕ) (go : Passed Seen IndexedTable) →
       (r ≡ Ok tt → First more any (answered words go.outcome)) →
       First (test 11 p c ∷ more) any (answered words (unless_refused r p k go).outcome)
-  unfolding unless_refused read_of answer_of number
+  unfolding unless_refused and_numbers answer_of number
   last-first true r e k p go h = rw e (inl (tt, h e))
   last-first false r e k p go h = rw e (inr (λ t. t, refl))
 
@@ -123,100 +122,65 @@ module _ (more : List Check) (words : List ℕ) where
 abbrev pub checks_of : Model → List ℕ → List Check
 checks_of M words = words_checks M (whole_of (get_or words 0 0)) [] words
 
-module _ (M : Model) (m : ModelKept) (i : Indexed M m) where
+module _ (M : Model) (m : IndexedModel) (i : Indexed M m) where
   words-from :
-      (whole : ℕ) (before words : List ℕ) (s : Seen) (k : Kept) → Agrees M m whole before s →
+      (whole : ℕ) (before words : List ℕ) (s : Seen) (k : IndexedTable) → Agrees M m whole before s →
       Heads whole before (get_or words 0 0) → (more : List Check) (all : List ℕ) →
-      ((t : Seen) → (scan_from m.index s k (length before) words).outcome ≡ Ok t → First more any (answered all (Ok t))) →
-      First (words_checks M whole before words ++ more) any (answered all (scan_from m.index s k (length before) words).outcome)
-  unfolding scan_from words_checks word_checks checked_end
+      ((t : Seen) → (pass_from (steps m.index) s k (length before) words).outcome ≡ Ok t → First more any (answered all (Ok t))) →
+      First (words_checks M whole before words ++ more) any (answered all (pass_from (steps m.index) s k (length before) words).outcome)
+  unfolding pass_from pass_end words_checks word_checks checked_end
   words-from whole before [] s k a first more all h =
+      let go : Passed Seen IndexedTable = passed_at (Ok s) k in
       last-first more all (eqb (opener_from (table_number no_kind) before) (table_number start_node)) (checked_end s) (rw a.tallies.opener) k
-      (length before) (pass_at (Ok s) k) λ n. h s (ap (λ (q : Pass). q.outcome) (goes (checked_end s) (length before) k (pass_at (Ok s) k) n))
+      (length before) go λ n. h s (ap (λ (q : Passed Seen IndexedTable). q.outcome) (goes (checked_end s) (length before) k go n))
   words-from whole before (w ∷ ws) s k a first more all h =
       let p : ℕ = length before in
       let x : Index = m.index in
-      let r : Result (Unit {0}) Reason = checked s x.clocks x.locations w in
-      let go : Pass = scan_from x (seen_with x s w p) (kept_with s w p k) (suc p) ws in
+      let r : Result (Unit {0}) Reason = checked x s w in
+      let go : Passed Seen IndexedTable = pass_from (steps x) (seen_with x s w) (kept_with s w p k) (suc p) ws in
       step-first (words_checks M whole (w ∷ before) ws ++ more) all (kind? M whole before w) (field? M whole before w) (under? M whole before w)
       r (check_is M m i whole before s w a) k p go λ n.
-      words-from whole (w ∷ before) ws (seen_with x s w p) (kept_with s w p k) (agrees_with M m i whole before s w p a n first)
+      words-from whole (w ∷ before) ws (seen_with x s w) (kept_with s w p k) (agrees_with M m i whole before s w a n first)
       (λ e. absurd (omega (arith, ap length e))) more all
-      λ t g. h t (ap (λ (q : Pass). q.outcome) (goes r p k go n) ∙ g)
+      λ t g. h t (ap (λ (q : Passed Seen IndexedTable). q.outcome) (goes r p k go n) ∙ g)
 
   pub words-first :
-      (words : List ℕ) (ns : List NodeEntry) (zs : List Square) (more : List Check) →
-      ((t : Seen) → (scanned m.index words ns zs).outcome ≡ Ok t → First more any (answered words (Ok t))) →
-      First (checks_of M words ++ more) any (answered words (scanned m.index words ns zs).outcome)
+      (words : List ℕ) (k : IndexedTable) (more : List Check) →
+      ((t : Seen) → (scanned m.index words k).outcome ≡ Ok t → First more any (answered words (Ok t))) →
+      First (checks_of M words ++ more) any (answered words (scanned m.index words k).outcome)
   unfolding scanned
-  words-first words ns zs more =
-      words-from (whole_of (get_or words 0 0)) [] words nothing (keep ns zs) (agrees-nothing M m _) (λ e. refl) more words
+  words-first words k more =
+      words-from (whole_of (get_or words 0 0)) [] words nothing (begun k) (agrees-nothing M m _) (λ e. refl) more words
 
   -- ---- the nodes that the pass counts
 
   pub agrees-end :
       (whole : ℕ) (before words : List ℕ) (s : Seen) (p : ℕ) → Agrees M m whole before s → Heads whole before (get_or words 0 0) →
-      Run m.index s p words → Agrees M m whole (reverse_aux words before) (seen_end m.index s p words)
+      Run (steps m.index) s p words → Agrees M m whole (reverse_aux words before) (seen_end (steps m.index) s p words)
   unfolding seen_end
   agrees-end whole before [] s p a first g = a
   agrees-end whole before (w ∷ ws) s p a first g =
-      agrees-end whole (w ∷ before) ws (seen_with m.index s w p) (suc p) (agrees_with M m i whole before s w p a g.0 first)
+      agrees-end whole (w ∷ before) ws (seen_with m.index s w) (suc p) (agrees_with M m i whole before s w a g.0 first)
       (λ e. absurd (omega (arith, ap length e))) g.1
 
-module _ (M : Model) (m : ModelKept) (i : Indexed M m) (words : List ℕ) where
-  pub nodes-end : Run m.index nothing 0 words → (seen_end m.index nothing 0 words).nodes ≡ count_of (table_number node) words
+module _ (M : Model) (m : IndexedModel) (i : Indexed M m) (words : List ℕ) where
+  nodes-end : Run (steps m.index) nothing 0 words → (seen_end (steps m.index) nothing 0 words).nodes ≡ count_of (table_number node) words
   nodes-end g =
       let a = agrees-end M m i (whole_of (get_or words 0 0)) [] words nothing 0 (agrees-nothing M m _) (λ e. refl) g in
       a.tallies.nodes ∙ count_reversed (table_number node) words
 
-  pub nodes-scanned : (ns : List NodeEntry) (zs : List Square) (t : Seen) → (scanned m.index words ns zs).outcome ≡ Ok t →
-      t.nodes ≡ count_of (table_number node) words
+  pub nodes-scanned : (k : IndexedTable) (t : Seen) → (scanned m.index words k).outcome ≡ Ok t → t.nodes ≡ count_of (table_number node) words
   unfolding scanned
-  nodes-scanned ns zs t n =
-      let g = run_of m.index nothing (keep ns zs) 0 words t n in
-      let e : t ≡ seen_end m.index nothing 0 words = ended m.index nothing (keep ns zs) 0 words t n in
+  nodes-scanned k t n =
+      let g = run_of (steps m.index) nothing (begun k) 0 words t n in
+      let e : t ≡ seen_end (steps m.index) nothing 0 words = ended (steps m.index) nothing (begun k) 0 words t n in
       rw e (nodes-end g)
 
 -- ---- on the whole file
 
--- the first of the places p and on that is a word's, where there is one
-abbrev missing_from : ℕ → ℕ → ℕ → Option ℕ
-missing_from p at l = cond (ltb at l) (Some (p + at)) None
-
-next : (p at l : ℕ) → missing_from p (1 + at) (suc l) ≡ missing_from (suc p) at l
-next p at l = grind (arith, nat_tests)
-
-first-there : (p l : ℕ) → missing_from p 0 (suc l) ≡ Some p
-first-there p l = grind (arith, nat_tests)
-
-from-first : (at l : ℕ) → cond (ltb at l) (Some at) None ≡ missing_from 0 at l
-from-first at l = rw (zero-add at)
-
--- a number is at least n, or below it
-at-least : (n m : ℕ) → leb n m ≡ not (ltb m n)
-at-least n m = grind (arith, nat_tests)
-
-number-first :
-    (a b : Bool) (p at l : ℕ) (cs : List Check) (t : TableRead) →
-    First cs any (answer_of (unless_missing (missing_from (suc p) at l) t)) →
-    First (test 14 p (not a || b) ∷ cs) any (answer_of (unless_missing (missing_from p (cond (not (a && not b)) (1 + at) 0) (suc l)) t))
-unfolding unless_missing answer_of number
-number-first true true p at l cs t h = inl (tt, rw (next p at l) h)
-number-first true false p at l cs t h = inr (λ t. t, rw (first-there p l))
-number-first false b p at l cs t h = inl (tt, rw (next p at l) h)
-
-pub numbers-first : (nodes p : ℕ) (ws : List ℕ) (t : TableRead) →
-    First (number_checks nodes p ws) any (answer_of (unless_missing (missing_from p (position_or_len (lacks_node? nodes) ws) (length ws)) t))
-unfolding number_checks unless_missing answer_of
-numbers-first nodes p [] t = tt
-numbers-first nodes p (w ∷ ws) t =
-    rw (at-least nodes (number_of w))
-    (number-first (is_table successor w || is_table start_node w) (ltb (number_of w) nodes) p
-    (position_or_len (lacks_node? nodes) ws) (length ws) (number_checks nodes (suc p) ws) t (numbers-first nodes (suc p) ws t))
-
-pub read-says : (M : Model) (m : ModelKept) → Indexed M m → (words : List ℕ) (ns : List NodeEntry) (zs : List Square) →
-    First (read_checks M words) any (answer_of (read_of (scanned m.index words ns zs).outcome words))
-unfolding read_checks read_of
-read-says M m i words ns zs =
-    words-first M m i words ns zs (number_checks (count_of (table_number node) words) 0 words)
-    λ t n. rw (from-first (position_or_len (lacks_node? t.nodes) words) (length words), nodes-scanned M m i words ns zs t n) (numbers-first (count_of (table_number node) words) 0 words _)
+pub read-says : (M : Model) (m : IndexedModel) → Indexed M m → (words : List ℕ) (k : IndexedTable) →
+    First (read_checks M words) any (answer_of (read_of (scanned m.index words k) words))
+unfolding read_checks read_of and_numbers
+read-says M m i words k =
+    words-first M m i words k (number_checks (count_of (table_number node) words) 0 words)
+    λ t n. rw (nodes-scanned M m i words k t n) (numbers-first (count_of (table_number node) words) words)

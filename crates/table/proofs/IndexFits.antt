@@ -12,7 +12,7 @@ use Rattle.model.specs.Model.{Action, Model}
 use Rattle.model.specs.States.{location_at}
 use Rattle.model.specs.Indexed.{Each, ActionAt, LocationAt, Indexed}
 use Rattle.model.specs.declared.index.Index.{Index}
-use Rattle.model.specs.Index.{Kept as ModelKept}
+use Rattle.model.specs.declared.index.IndexedModel.{IndexedModel}
 use Rattle.model.proofs.IndexLaws.{location-at}
 use Rattle.model.proofs.ZoneLaws.{All, more}
 use Rattle.model.proofs.WellFormed.{FormedAction, WellFormed}
@@ -26,14 +26,14 @@ here-or-later {X} n a h f g = by (eqb n a) refl
     by true e = f (eqb-true n a e)
     by false e = g (omega (arith, eqb-false n a e))
 
-module _ {M : Model} {m : ModelKept} (g : WellFormed M) (i : Indexed M m) where
+module _ {M : Model} {m : IndexedModel} (g : WellFormed M) (i : Indexed M m) where
   abbrev x : Index
   x = m.index
 
   at : (l : ℕ) → l < x.locations → LocationAt m l (location_at M l)
   at l h = location-at i l (rw (← i.locations) h)
 
-  -- an action among those numbered from n on has an edge, and its edges are places in the store of edge words
+  -- an action among those numbered from n on has an edge, and its edges are places in the array of edge words
   edges-of : (a n : ℕ) (As : List Action) → All (FormedAction M) As → Each (ActionAt m) n As → n ≤ a → a < n + length As →
       (get_or x.edges a 0 < get_or x.edges (suc a) 0) × (get_or x.edges (suc a) 0 ≤ 128)
   unfolding Each

@@ -1,14 +1,12 @@
 -- The laws of `table`, none of which uses a later one: words, the pass, the table; proofs of functions stand in folders of their own.
-pub mod KindLaws
 pub mod NodeLaws
-pub mod WordChecks
 pub mod Passing
 pub mod Limits
 pub mod ScanLaws
-pub mod Run
 pub mod ReadLaws
 pub mod Rows
 pub mod Agreeing
+pub mod Missing
 pub mod Checking
 pub mod Walk
 pub mod Slots

@@ -10,19 +10,21 @@ use Rattle.answers.specs.declared.Reason.TheVariants as reason
 use native.Mathlib.Omega.{arith}
 use borrow.Author.Tests.{eq-eqb}
 use lib.Dec.{T, eqb, eqb→eq}
-use Rattle.zone.specs.Words.{kind, bound_of, good_bound?}
+use Rattle.zone.specs.Words.{kind, bound_of, bound_fields?, good_bound?}
 use Rattle.zone.proofs.Bools.{false_true, is_true, left_true, right_true}
 use Rattle.zone.proofs.WordLaws.{good-first, good-second}
-use Rattle.model.specs.TableKinds.{TableKind, no_kind, table_head, node, node_bound, value, table_number, table_kinds, table_kind_of}
+use Rattle.model.specs.declared.table_kinds.TableKind.{TableKind}
+use Rattle.model.specs.declared.table_kinds.TableKind.TheVariants.{None as no_kind, Head as table_head, Node as node, Bound as node_bound, Value as value}
+use Rattle.model.specs.TableKinds.{table_number, table_kinds, table_kind_of}
 use Rattle.model.specs.Grammar.{table_follows, table_follows?}
 use Rattle.model.specs.declared.index.Index.{Index}
-use Rattle.model.proofs.TableRule.{same?, same}
+use Rattle.model.proofs.KindLaws.{same?, same}
 use Rattle.model.proofs.KindLaws.{each?, row?, each_row}
 use Rattle.table.specs.Fields.{fields?}
 use Rattle.table.specs.Reading.{limit?}
 use Rattle.table.specs.Scan.{rows_allow_kind?, rows_allow_at?, fields_at?, limit_at?, checked, one_of?}
 use Rattle.table.specs.declared.seen.Seen.{Seen}
-use Rattle.table.proofs.KindLaws.{kind-is, by_kind}
+use Rattle.model.proofs.TableKindLaws.{kind-is, by_kind}
 
 -- three tests in their order
 abbrev pub first_refused : Bool → Bool → Bool → Result (Unit {0}) Reason
@@ -37,16 +39,16 @@ all_pass false b c h = absurd cc
 -- the word w, of the kind k, passes the checks behind words that come to s
 pub record Passes (k : TableKind) (x : Index) (s : Seen) (w : ℕ) : Type 0 where
   pub named : kind w ≡ table_number k
-  pub follows : table_follows? s.opener (table_number k) ≡ true
+  pub follows : table_follows? (table_number s.opener) (table_number k) ≡ true
   pub rows : rows_allow_kind? k s ≡ true
   pub fields : fields? k x.clocks x.locations s.whole w ≡ true
   pub limit : limit? k s.nodes ≡ true
 
-pub passes : (x : Index) (s : Seen) (w : ℕ) → checked s x.clocks x.locations w ≡ Ok tt → Passes (table_kind_of w) x s w
-unfolding checked fields_at? limit_at? rows_allow_at? fields?
+pub passes : (x : Index) (s : Seen) (w : ℕ) → checked x s w ≡ Ok tt → Passes (table_kind_of w) x s w
+unfolding checked
 passes x s w h =
-    let follows : Bool = table_follows? s.opener (kind w) in
-    let all = all_pass (follows && rows_allow_at? s w) (fields_at? s x.clocks x.locations w) (limit_at? s w) h in
+    let follows : Bool = table_follows? (table_number s.opener) (kind w) in
+    let all = all_pass (follows && rows_allow_at? s w) (fields_at? x s w) (limit_at? s w) h in
     let named : kind w ≡ table_number (table_kind_of w) =
     by_kind (λ (k : TableKind). fields? k x.clocks x.locations s.whole w ≡ true → kind w ≡ table_number k) w
     (λ e. false_true e) (λ k n e. n) all.1 in
@@ -58,19 +60,23 @@ passes x s w h =
       limit = all.2;
     }
 
-pub passes_as :
-    (k : TableKind) (x : Index) (s : Seen) (w : ℕ) → kind w ≡ table_number k → checked s x.clocks x.locations w ≡ Ok tt →
-    Passes k x s w
-passes_as k x s w e h = subst (λ (k : TableKind). Passes k x s w) (kind-is k w e) (passes x s w h)
+pub passes_as : (k : TableKind) (x : Index) (s : Seen) (w : ℕ) → table_kind_of w ≡ k → checked x s w ≡ Ok tt → Passes k x s w
+passes_as k x s w e h = subst (λ (k : TableKind). Passes k x s w) e (passes x s w h)
 
 -- the clocks of a bound
 pub bound-clocks : (x : Index) (s : Seen) (w : ℕ) → x.clocks ≤ 4 → Passes node_bound x s w → ((bound_of w).i < 5) × ((bound_of w).j < 5)
-unfolding good_bound? fields?
+unfolding good_bound?
 bound-clocks x s w clocks g =
     let good : good_bound? x.clocks w ≡ true = rw (eq-eqb _ _ g.named) g.fields in
     let i = good-first x.clocks w good in
     let j = good-second x.clocks w good in
     (omega arith, omega arith)
+
+-- a bound that may stand behind the opener and has good fields passes: no row asks for it, and it has no limit
+pub bound_passes : (x : Index) (s : Seen) (w : ℕ) → kind w ≡ table_number node_bound → table_follows? (table_number s.opener) (kind w) ≡ true →
+    bound_fields? x.clocks w ≡ true → checked x s w ≡ Ok tt
+unfolding checked
+bound_passes x s w e f g = rw (f, kind-is node_bound w e, g) refl
 
 -- ---- what may follow what
 

@@ -11,7 +11,8 @@ use lib.ListN.{get_or, length, drop}
 use lib.Seq.{drop-drop}
 use Rattle.zone.specs.Words.{kind}
 use Rattle.zone.proofs.Bools.{by-test}
-use Rattle.model.specs.TableKinds.{TableKind, no_kind, table_head, node, node_bound, value, blocked, successor, start_node, cut}
+use Rattle.model.specs.declared.table_kinds.TableKind.{TableKind}
+use Rattle.model.specs.declared.table_kinds.TableKind.TheVariants.{None as no_kind, Head as table_head, Node as node, Bound as node_bound, Value as value, Blocked as blocked, Successor as successor, StartNode as start_node, Cut as cut}
 use Rattle.model.specs.TableKinds.{table_number, is_table, table_kind_of}
 use Rattle.model.specs.Before.{opener_from, count_of}
 use Rattle.model.specs.Model.{Action, Model}
@@ -21,7 +22,7 @@ use Rattle.model.proofs.WellFormed.{FormedAction, WellFormed}
 use Rattle.table.specs.Fields.{location_of, fields?}
 use Rattle.table.specs.Table.{row_actions, node_of, nodes_of}
 use Rattle.table.specs.Reading.{last_location, Due, edge_counts, all_due, due_after_row, due_after_successor, two_due, due_with, due}
-use Rattle.table.proofs.KindLaws.{kind-is, by_kind}
+use Rattle.model.proofs.TableKindLaws.{kind-is, by_kind}
 
 -- ---- the rows that are due
 
@@ -112,7 +113,6 @@ due_with_lem M before w k e = ap (λ (k : TableKind). due_with k M (last_locatio
 
 -- a word with good fields is of a table's kind
 pub named : (w C locations whole : ℕ) → T (fields? (table_kind_of w) C locations whole w) → kind w ≡ table_number (table_kind_of w)
-unfolding fields?
 named w C locations whole =
     by_kind (λ (k : TableKind). T (fields? k C locations whole w) → kind w ≡ table_number k) w (λ t. absurd t) (λ k e t. e)
 

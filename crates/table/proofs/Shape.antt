@@ -14,7 +14,8 @@ use Rattle.zone.specs.Words.{bits, kind, bound_of, bound_fields?, zone_of}
 use Rattle.answers.specs.Checks.{Check}
 use Rattle.zone.proofs.Bools.{by-test, false_true, both, is_true}
 use Rattle.answers.proofs.CheckLaws.{AllHold, all_left, all_right}
-use Rattle.model.specs.TableKinds.{TableKind, no_kind, table_head, node, node_bound, value, blocked, successor, start_node, cut}
+use Rattle.model.specs.declared.table_kinds.TableKind.{TableKind}
+use Rattle.model.specs.declared.table_kinds.TableKind.TheVariants.{None as no_kind, Head as table_head, Node as node, Bound as node_bound, Value as value, Blocked as blocked, Successor as successor, StartNode as start_node, Cut as cut}
 use Rattle.model.specs.TableKinds.{table_number, is_table, table_kind_of}
 use Rattle.model.specs.Before.{opener_from, count_of, index_of}
 use Rattle.model.specs.Grammar.{table_follows, numbered?, table_follows?}
@@ -215,15 +216,12 @@ module _ (M : Model) (W : Table) (words : List ℕ) where
 
   module _ (formed : WellFormed M) (o l : ℕ) (d : Due) (w p : ℕ) (ws : List ℕ) where
     good-bound : Passes node_bound o d w → GoodBound (bound_of w)
-    unfolding fields?
     good-bound g = good-word M.clocks w formed.clocks (is_true (bound_fields? M.clocks w) g.fields)
 
     good-cut : Passes cut o d w → GoodBound (bound_of w)
-    unfolding fields?
     good-cut g = good-word M.clocks w formed.clocks (is_true (bound_fields? M.clocks w) (both (bound_fields? M.clocks w) _ g.fields).0)
 
     location-exists : Passes node o d w → location_of w < length M.locations
-    unfolding fields?
     location-exists g = ltb→lt (location_of w) (length M.locations) (both (eqb (bits 23 0 w) 0) _ g.fields).1
 
     number-there : (k : TableKind) → (table_number k ≡ table_number successor ⊎ table_number k ≡ table_number start_node) → Passes k o d w → number_of w < length W.nodes
@@ -270,7 +268,7 @@ module _ (M : Model) (W : Table) (words : List ℕ) where
     stands_with :
         (k : TableKind) → Passes k o d w → LackingDue d → drop (suc p) words ≡ ws →
         Stands (opener_with k o) (location_with k w l) (due_with k M l d) (suc p) ws → Stands o l d p (w ∷ ws)
-    unfolding table_follows numbered? fields? rows_allow? due_with all_due due_after_row two_due nodes_of index_of BodyStands
+    unfolding table_follows numbered? rows_allow? due_with all_due due_after_row two_due nodes_of index_of BodyStands
     stands_with no_kind g n e r = absurd g.fields
     stands_with table_head g n e r =
         let first = behind-only table_head o g.follows no_kind tt in

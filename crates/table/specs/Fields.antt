@@ -1,7 +1,8 @@
 -- Document 01, "Words", and document 02, card 1: the fields of a table's words, their ranges and spare bits. Assumes nothing.
 use Rattle.std.specs.Prelude.{ℕ, Bool, false, ◌&&◌, eqb, leb, ltb}
 use Rattle.zone.specs.Words.{bits, bound_fields?}
-use Rattle.model.specs.TableKinds.{TableKind, no_kind, table_head, node, node_bound, value, blocked, successor, start_node, cut}
+use Rattle.model.specs.declared.table_kinds.TableKind.{TableKind}
+use Rattle.model.specs.declared.table_kinds.TableKind.TheVariants.{None as no_kind, Head as table_head, Node as node, Bound as node_bound, Value as value, Blocked as blocked, Successor as successor, StartNode as start_node, Cut as cut}
 
 -- 7 table head: V (27-0, at least 1)
 abbrev pub whole_of : ℕ → ℕ
@@ -42,7 +43,7 @@ cut_fields? C w = bound_fields? C w && eqb (bits 23 20 w) 0
 
 -- the fields of a word of a kind are in their ranges and its spare bits zero. The model has C clocks and so many locations, and the table's
 -- head gives V
-unfoldable pub fields? : TableKind → ℕ → ℕ → ℕ → ℕ → Bool
+abbrev pub fields? : TableKind → ℕ → ℕ → ℕ → ℕ → Bool
 fields? no_kind C locations whole w = false
 fields? table_head C locations whole w = table_head_fields? w
 fields? node C locations whole w = node_fields? locations w

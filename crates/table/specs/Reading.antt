@@ -2,7 +2,8 @@
 use Rattle.std.specs.Prelude.{ℕ, suc, Bool, true, false, not, cond, ◌&&◌, ◌||◌, List, [], ◌∷◌, ◌++◌, get_or, length, drop, eqb, ltb}
 use Rattle.zone.specs.Words.{kind}
 use Rattle.answers.specs.Checks.{Check, test}
-use Rattle.model.specs.TableKinds.{TableKind, no_kind, table_head, node, node_bound, value, blocked, successor, start_node, cut}
+use Rattle.model.specs.declared.table_kinds.TableKind.{TableKind}
+use Rattle.model.specs.declared.table_kinds.TableKind.TheVariants.{None as no_kind, Head as table_head, Node as node, Bound as node_bound, Value as value, Blocked as blocked, Successor as successor, StartNode as start_node, Cut as cut}
 use Rattle.model.specs.TableKinds.{table_number, is_table, table_kind_of}
 use Rattle.model.specs.Before.{opener_from, count_of}
 use Rattle.model.specs.Grammar.{table_follows?}
@@ -85,7 +86,7 @@ rows_allow? start_node d = none? d.rows
 rows_allow? cut d = not d.target
 
 -- 13: at most 64 nodes; so many stand before
-unfoldable pub limit? : TableKind → ℕ → Bool
+abbrev pub limit? : TableKind → ℕ → Bool
 limit? no_kind nodes = true
 limit? table_head nodes = true
 limit? node nodes = ltb nodes 64

@@ -3,7 +3,8 @@
 use Rattle.std.specs.Prelude.{ℕ, zero, suc, ◌+◌, cond, List, [], ◌∷◌, get_or, length, drop}
 use Rattle.zone.specs.Scale.{Bound, Zone}
 use Rattle.zone.specs.Words.{bound_of, zone_of}
-use Rattle.model.specs.TableKinds.{node, node_bound, blocked, start_node, cut, table_number, is_table}
+use Rattle.model.specs.declared.table_kinds.TableKind.TheVariants.{Node as node, Bound as node_bound, Blocked as blocked, StartNode as start_node, Cut as cut}
+use Rattle.model.specs.TableKinds.{table_number, is_table}
 use Rattle.model.specs.Before.{index_of}
 use Rattle.model.specs.Model.{Action, Location, Model}
 use Rattle.model.specs.States.{location_at}

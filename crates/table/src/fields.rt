@@ -62,6 +62,7 @@ pub(crate) fn number_fields(word: u32) -> bool
 }
 
 /// Whether a word of kind D has the fields of a bound over clocks 1 to `clocks`, with j 0.
+#[tactic(auto, unfolding(zone::specs::Words::bound_of))]
 pub(crate) fn cut_fields(clocks: u32, word: u32) -> bool
     ensures { result ≡ cut_fields? clocks word }
 {

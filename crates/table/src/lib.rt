@@ -2,8 +2,8 @@
 #![tactic(auto)]
 
 pub mod fields; // fields.rt: the fields of a table's words
-pub mod nodes; // nodes.rt: what is kept of a node
+pub mod nodes; // nodes.rt: what is kept of a table and of its nodes
 mod due; // due.rt: how many rows a node has, and how many words a row
-mod seen; // seen.rt: what the words read so far come to, and the checks of the next
-mod scan; // scan.rt: one pass over the words
+mod seen; // seen.rt: what the words read so far come to
+mod reader; // reader.rt: the steps of a pass over the words
 pub mod read; // read.rt: a table's nodes, or the refusal with its place

@@ -150,7 +150,7 @@ module _ (C : ℕ) (first second : List ℕ) where
             λ m. lies-no (tightens-read C first e) (spans (read-stands C few first e)) (read-stands C few second f) q m,
           )
 
--- ---- the two questions decided, for every C and all lists
+-- ---- the two questions decided, for every C and all lists: theorems for a reader, which no proof cites
 unfoldable pub empty_from : Result Square ℕ → Result Bool Refusal
 empty_from (Ok z) = Ok (empty? (tightened z))
 empty_from (Err p) = refuse reason.BadBound p

@@ -226,7 +226,7 @@ module _ {R : Region} {z : Square} (c : ℕ) (few : suc c ≤ 4) (fits : Tighten
       holds : R n (point_at (suc c) z)
       holds = s.out n (omega arith) (point_at (suc c) z) (rw reads-v in_table)
 
--- ---- a table that is not empty has a point, and no other has
+-- ---- a table that is not empty has a point, and no other has: a theorem for a reader, which no proof cites
 pub none-empty : (C : ℕ) (z : Square) {e : Option Point} → e ≡ earliest_of C z → is_none e ≡ empty? z
 unfolding earliest_of
 none-empty C z f = rw f (by (empty? z))

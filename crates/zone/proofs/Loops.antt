@@ -1,7 +1,7 @@
 -- Loops over arrays: one that fills an array from the front, and one that asks a test at every number. Assumes nothing.
-use Prim.Native.Nat.{ℕ, zero, suc, ◌+◌, ◌*◌, ◌/◌, ◌%◌, ◌≤◌, ◌<◌}
+use Prim.Native.Nat.{ℕ, zero, suc, ◌+◌, ◌/◌, ◌%◌, ◌≤◌, ◌<◌}
 use mathlib.Core.Path.{◌≡◌, refl, sym, ap, ap₂, subst, ◌∙◌}
-use mathlib.Core.Bool.{Bool, true, false, not, ◌&&◌, ◌||◌}
+use mathlib.Core.Bool.{Bool, true, false, ◌&&◌}
 use mathlib.Core.List.{List, ◌∷◌}
 use mathlib.Core.Logic.{◌⊎◌, inl, inr}
 use native.Mathlib.Nat.{
@@ -28,10 +28,6 @@ use Rattle.zone.proofs.Integers.{lt-or-ge}
 -- the cell at an index is that of the index's two clocks
 pub at-clocks : (z : Square) (p : ℕ) → cell z (p / 5) (p % 5) ≡ get_or z.cells p past_end
 at-clocks z p = ap (λ (k : ℕ). get_or z.cells k past_end) (div-add-mod' p 5)
-
--- the cells of a clock minus itself stand six apart
-pub on-diagonal : (z : Square) (i : ℕ) → cell z i i ≡ get_or z.cells (i * 6) past_end
-on-diagonal z i = ap (λ (k : ℕ). get_or z.cells k past_end) (let e : i * 5 + i ≡ i * 6 = omega arith in e)
 
 -- ---- the list of a function's values
 pub list_of-length : {A : Type 0} (f : ℕ → A) (n p : ℕ) → length (list_of f n p) ≡ n
@@ -128,15 +124,6 @@ all_pass (suc n) f h = rw (all_pass n f (λ k l. h k (omega arith)), h n (omega 
 pub all_more : (n : ℕ) (f : ℕ → Bool) {a b : Bool} → a ≡ all? n f → b ≡ f n → (a && b) ≡ all? (n + 1) f
 unfolding all?
 all_more n f e g = rw (add-one n, e, g)
-
--- that it fails at some number, and one number more
-pub some_more : (n : ℕ) (f : ℕ → Bool) {a b : Bool} → a ≡ not (all? n f) → b ≡ not (f n) → (a || b) ≡ not (all? (n + 1) f)
-unfolding all?
-some_more n f e g = rw (add-one n, e, g) (by (all? n f) (f n))
-  where
-    by : (c d : Bool) → (not c || not d) ≡ not (c && d)
-    by true d = refl
-    by false d = refl
 
 -- a test that passes at every number below n passes at each
 pub all-at : (n : ℕ) (f : ℕ → Bool) → all? n f ≡ true → (i : ℕ) → i < n → f i ≡ true

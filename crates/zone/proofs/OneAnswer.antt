@@ -1,4 +1,4 @@
--- At most one answer meets the promise of each question about zones. Assumes nothing.
+-- At most one answer meets the promise of each question about zones: theorems for a reader, which no proof cites. Assumes nothing.
 use Prim.Native.Nat.{ℕ, zero, suc, ◌≤◌, ◌<◌}
 use mathlib.Core.Path.{◌≡◌, refl, sym, ap, fun_ext, ◌∙◌}
 use mathlib.Core.Bool.{Bool}

@@ -2,9 +2,12 @@
 use Rattle.std.proofs.Common.{◌≡◌, refl, ◌⊎◌, inl, inr, ℕ, suc, ◌+◌, ◌<◌, ◌≤◌, Bool, true, false, cond, List, [], ◌∷◌, Ok, Err, T, length, drop, get_or, add-one, drop-cons}
 use lib.ListN.{drop_of_length-le}
 use Rattle.zone.specs.Words.{good_bound?}
+use Rattle.std.specs.Prelude.{Result}
 use Rattle.answers.specs.Checks.{Answer, refused, First}
+use Rattle.answers.specs.declared.Reason.{Reason}
+use Rattle.answers.specs.declared.Refusal.{Refusal}
 use Rattle.zone.specs.Questions.{bound_checks}
-use Rattle.zone.specs.Reading.{with_word, read_from}
+use Rattle.zone.specs.Reading.{with_word, read_from, or_refused}
 use Rattle.zone.specs.declared.zones.Zone.{Zone as Square}
 use Rattle.answers.proofs.CheckLaws.{AllHold}
 
@@ -24,6 +27,24 @@ module _ (C : ℕ) (ws : List ℕ) (p : ℕ) (z : Square) where
     loop-good e = rw (drop-cons ws p 0 h, e, add-one p)
 
 -- ---- the outcome
+-- where there is a zone, it is the one that was read, and a refusal is that of the word where reading stopped
+module _ (r : Reason) (s : Result Square ℕ) where
+  pub zone-read : {z : Square} → or_refused r s ≡ Ok z → s ≡ Ok z
+  unfolding or_refused
+  zone-read {z} e = by s e
+    where
+      by : (s : Result Square ℕ) → or_refused r s ≡ Ok z → s ≡ Ok z
+      by (Ok y) e = cc
+      by (Err p) e = absurd (cc)
+
+  pub zone-refused : {f : Refusal} → or_refused r s ≡ Err f → (f.reason ≡ r) × (s ≡ Err f.place)
+  unfolding or_refused
+  zone-refused {f} e = by s e
+    where
+      by : (s : Result Square ℕ) → or_refused r s ≡ Err f → (f.reason ≡ r) × (s ≡ Err f.place)
+      by (Ok y) e = absurd (cc)
+      by (Err p) e = let g : record { reason = r; place = p } ≡ f = cc in rw (← g) (refl, refl)
+
 -- read to the end: the first word is a good bound, and so are the others
 pub read_more : (C w : ℕ) (ws : List ℕ) (p : ℕ) (z : Square) {y : Square} → read_from C (w ∷ ws) p z ≡ Ok y →
     (good_bound? C w ≡ true) × (read_from C ws (suc p) (with_word w z) ≡ Ok y)

@@ -1,6 +1,9 @@
 -- Algorithm: bound words read into a square table. Assumes nothing.
 use Rattle.std.specs.Prelude.{ℕ, suc, cond, List, [], ◌∷◌, Result, Ok, Err}
 use Rattle.std.specs.Result.{result_unwrap_or}
+use Rattle.answers.specs.Refusals.{refuse}
+use Rattle.answers.specs.declared.Reason.{Reason}
+use Rattle.answers.specs.declared.Refusal.{Refusal}
 use Rattle.zone.specs.Scale.{Bound}
 use Rattle.zone.specs.Keys.{key_of}
 use Rattle.zone.specs.Words.{bound_of, good_bound?}
@@ -25,3 +28,8 @@ read_zone C words = read_from C words 0 universe
 -- the zone of words that are known to be good bounds
 unfoldable pub zone_read : ℕ → List ℕ → Square
 zone_read C words = result_unwrap_or (read_zone C words) universe
+
+-- the refusal for a reason, at the place that stands for a zone where there is none
+unfoldable pub or_refused : Reason → Result Square ℕ → Result Square Refusal
+or_refused r (Ok z) = Ok z
+or_refused r (Err p) = refuse r p

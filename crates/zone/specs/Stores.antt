@@ -1,5 +1,5 @@
--- Algorithm: zones in a slice that a caller lends, one to a slot. Assumes nothing.
-use Rattle.std.specs.Prelude.{ℕ, ◌<◌, List, [], length, get_or, set}
+-- Algorithm: zones in an array, one to a slot. Assumes nothing.
+use Rattle.std.specs.Prelude.{ℕ, List, [], get_or, set}
 use Rattle.zone.specs.Reading.{with_word}
 use Rattle.zone.specs.declared.zones.Zone.{Zone as Square}
 
@@ -16,7 +16,3 @@ put_at z slot zs = set zs slot z
 -- the tighter of a word's bound and the one at its cell of a slot
 abbrev pub with_word_at : ℕ → ℕ → List Square → List Square
 with_word_at w slot zs = set zs slot (with_word w (zone_at zs slot))
-
--- the slice has a slot of that number
-pub record HasSlot (slot : ℕ) (zs : List Square) : Type 0 where
-  pub room : slot < length zs

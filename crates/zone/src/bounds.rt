@@ -6,7 +6,7 @@ ghost use Rattle.zone.specs.Cells.{tighter?, tighter_of, sum, negated, negative?
 
 /// A bound of the difference of two clocks, at most d time units, or below d if strict: its key is 2 * d, and one more unless it is strict. Keys
 /// from FINITE_BELOW up are those of absent bounds.
-// kept: no `Ord`, since document 02, card 2, has the tighter of two picked by arithmetic
+// kept: no `Ord`, and no `Option` for an absent bound, since document 02, card 2, has the tighter of two picked by arithmetic, without a branch
 #[derive(Clone, Copy, Debug, PartialEq, Eq)]
 pub struct Bound {
     pub key: i32,

@@ -1,8 +1,9 @@
 // Bound words read into a zone.
-ghost use Rattle.std.specs.Prelude.{◌≡◌, ◌≤◌, ◌<◌};
+ghost use Rattle.std.specs.Prelude.{◌≡◌, ◌<◌};
 ghost use Rattle.zone.specs.Words.{bound_of};
 ghost use Rattle.zone.specs.Reading.{with_word, read_zone};
 
+use crate::clocks::Clocks;
 use crate::words;
 use crate::zones::Zone;
 
@@ -18,15 +19,13 @@ impl Zone {
     }
 }
 
-// kept: C is a plain number, since the calls take it from C as one; so its range stands in a requires, here and in `Zone::earliest`
 /// The zone of a list of bound words, or the place of the first word that is no good bound.
-pub fn read_zone(clocks: u32, list: &[u32]) -> Result<Zone, usize>
-    requires { clocks ≤ 4 }
-    ensures { result ≡ read_zone clocks list.now }
+pub fn read_zone(clocks: Clocks, list: &[u32]) -> Result<Zone, usize>
+    ensures { result ≡ read_zone clocks.count list.now }
 {
     let mut zone = Zone::universe();
     for (at, &word) in list.iter().enumerate() {
-        if !words::good_bound(clocks, word) {
+        if !words::good_bound(clocks.count, word) {
             return Err(at);
         }
         zone.add_bound(word);

@@ -13,7 +13,11 @@ pub fn bits<const HIGH: u32, const LOW: u32>(word: u32) -> u32
     (word >> LOW) % (1 << (HIGH + 1 - LOW))
 }
 
-/// The top four bits of a word.
+/// The kind of a bound word, in a model's file and in a table's.
+pub const BOUND: u32 = 5;
+
+/// The kind of a word, its top four bits.
+// kept: a number, since each of the two files has other kinds beside a bound's, with types of their own above
 pub fn kind_of(word: u32) -> u32
     ensures { result ≡ kind word }
 {
@@ -71,5 +75,5 @@ pub fn bound_fields(clocks: u32, word: u32) -> bool
 pub fn good_bound(clocks: u32, word: u32) -> bool
     ensures { result ≡ good_bound? clocks word }
 {
-    (kind_of(word) == 5) & bound_fields(clocks, word)
+    (kind_of(word) == BOUND) & bound_fields(clocks, word)
 }

@@ -25,9 +25,9 @@ loop-count-preserved g c =
     let from = c.loop-count.count in
     let room = length c.loop-count.bytes - from in
     let within = c.loop-count.invariant.within in
-    let part = slice_range-put_mid from room c.in_ok-more.more c.loop-count.bytes c.read.new.buf within c.in_ok-more.ensures.bound.0 in
-    let joined = take_split from (from + c.in_ok-more.more) c.loop-count.bytes (put_mid from room c.loop-count.bytes c.read.new.buf) (omega arith) (take-put_mid_below _ _ _ _ _ (le_refl _) within) in
+    let part = slice_range-put_mid from room c.in-Ok.more c.loop-count.bytes c.read.new.buf within c.in-Ok.ensures.bound.0 in
+    let joined = take_split from (from + c.in-Ok.more) c.loop-count.bytes (put_mid from room c.loop-count.bytes c.read.new.buf) (omega arith) (take-put_mid_below _ _ _ _ _ (le_refl _) within) in
     record {
       within = search rules;
-      read = subst (Consumes _ _) (ap (λ l. take from c.loop-count.bytes ++ l) (sym part) ∙ joined) (Consumes-trans _ _ _ _ _ c.loop-count.invariant.read c.in_ok-more.ensures.bytes.0);
+      read = subst (Consumes _ _) (ap (λ l. take from c.loop-count.bytes ++ l) (sym part) ∙ joined) (Consumes-trans _ _ _ _ _ c.loop-count.invariant.read c.in-Ok.ensures.bytes.0);
     }

@@ -1,12 +1,20 @@
--- A slot more.
-use Rattle.std.proofs.Common.{arith, sym, subst, ◌+◌}
-use Rattle.board.specs.Ordering.{FirstHeld}
+-- The fold takes the slots one by one.
+use Rattle.std.proofs.Common.{rules, arith, sym, subst, ◌≡◌, ap}
+use Rattle.std.specs.Prelude.{None, fold}
+use Rattle.std.specs.List.{enumerate_from}
+use Rattle.std.proofs.lemmas.Iterator.{YieldsList-from_slice}
+use Rattle.std.proofs.lemmas.Iterator.Consumers.{YieldsList-from_enumerate, fold_from_yields_List}
+use Rattle.slots.specs.Slots.{slot_at}
+use Rattle.board.specs.Ordering.{FirstHeld, better_of}
 use Rattle.board.proofs.OrderLaws.{positive_of}
-use Rattle.board.proofs.PickLaws.{one_more}
+use Rattle.board.proofs.PickLaws.{first_of_all}
 use Rattle.board.proofs.ranking.first.Goals as goal
 
-pub loop-m-preserved : goal.loop-m-preserved
-loop-m-preserved c =
+pub returns : goal.returns
+returns c =
     let slots = c.args.slots.now in
-    subst (FirstHeld slots (c.loop-m.m + 1)) (sym c.better-best.ensures)
-    (one_more slots (positive_of slots c.requires) c.loop-m.m (omega arith) c.loop-m.best c.loop-m.invariant)
+    let folded : c.fold.result ≡ fold (λ best p. better_of p.1 p.0 best) None (enumerate_from 0 slots) =
+    fold_from_yields_List _ (λ best p. better_of p.1 p.0 best) None _ c.fold.ensures.ran
+    (YieldsList-from_enumerate (YieldsList-from_slice slots cc) cc) (λ a x b q k. search rules) in
+    subst (FirstHeld slots 16) (sym folded)
+    (first_of_all slots (positive_of slots c.requires) slots 0 None (λ i. ap (slot_at slots) (omega arith)) (omega arith) (λ m l h. absurd (omega arith)))

@@ -1,7 +1,10 @@
--- The two words are those of the location and of an empty zone's bound.
-use Rattle.std.proofs.Common.{refl}
-use Rattle.draft.proofs.FrontLaws.{empty-front}
+-- The word is that of an empty zone's bound.
+use Rattle.std.proofs.Common.{ap, Some, ◌∷◌, [], ◌++◌, ◌∙◌}
+use Rattle.zone.specs.Words.{bound_of}
+use Rattle.drafting.specs.Exploring.{narrow?}
+use Rattle.draft.specs.Fronts.{front, front_for}
 use Rattle.draft.proofs.fronts.empty_front.Goals as goal
 
 pub returns : goal.returns
-returns c = empty-front _ c.args.location _ refl refl
+unfolding front_for narrow? bound_of
+returns c = ap (λ ws. Some (front c.args.location ws)) (c.push.ensures.items ∙ ap (λ xs. xs ++ (0x51000FFF ∷ [])) c.new-bounds.ensures)

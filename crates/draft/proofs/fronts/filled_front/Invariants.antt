@@ -1,6 +1,6 @@
--- At cell p, the words taken so far, before those of the bounds that are left, are the front words.
-use Rattle.draft.proofs.FrontLaws.{TakenAt}
+-- The words so far, before those of the rows that are left, are those of all rows.
+use Rattle.draft.proofs.FrontLaws.{RowsAt}
 use Rattle.draft.proofs.fronts.filled_front.Given as goal
 
-abbrev pub invariant-loop-p : goal.invariant-loop-p
-invariant-loop-p l = TakenAt l.location l.clocks l.zone l.p l.size l.list
+abbrev pub invariant-loop-i : goal.invariant-loop-i
+invariant-loop-i l = RowsAt l.fn.clocks.count l.zone l.i l.bounds.items

@@ -1,57 +1,68 @@
--- A row has at most four codes, so those of 32 rows are there.
-use Rattle.std.proofs.Common.{◌+◌, add-one, arith}
-use Rattle.std.proofs.Math.Nat.{le_trans, mul-le-mul_right}
-use Rattle.table.specs.Scan.{edges_at}
+use Rattle.std.proofs.Common.{rules, ◌≡◌, ◌∙◌, arith, ap, take_all, length-drop}
+use Rattle.std.proofs.Math.ListN.{get_or-eq_default}
+use Rattle.std.proofs.Math.Nat.{le_refl, le_trans, mul-le-mul_right}
 use Rattle.drafting.specs.Words.{whole}
-use Rattle.draft.proofs.RoundCode.{edges-asked, largest-place, largest-blocked, largest-next, largest-end}
+use Rattle.draft.specs.Asked.{edges_of}
+use Rattle.draft.specs.Values.{sum_of}
+use Rattle.draft.proofs.RoundCode.{sum-row, action-asked, largest_begin, largest-blocked, largest-short, largest-next, largest-end}
 use Rattle.draft.proofs.rounds.largest.Goals as goal
-use Rattle.draft.proofs.rounds.largest.Goals.{then-codes-code, else-codes-code}
 
-pub bounds-codes-code : goal.bounds-codes-code
-bounds-codes-code c =
-    let asked = edges-asked c.requires.0 c.requires.1 c.loop-a.invariant.begun c.loop-a-test.true in
-    let place = largest-place _ _ _ _ c.loop-a.invariant asked.1 in
-    let room = c.requires.2 in
-    omega arith
+pub loop-a-init : goal.loop-a-init
+loop-a-init c =
+    rw (c.into_iter-a-iterator.ensures.into_iter_gives, c.actions_of-a-items.ensures) (record { largest = largest_begin _ _ _ _ _; end = search rules })
 
-pub bounds-source-a-else-codes-code : goal.bounds-source-a-else-codes-code
-bounds-source-a-else-codes-code c =
-    let asked = edges-asked c.requires.0 c.requires.1 c.loop-a.invariant.begun c.loop-a-test.true in
-    omega arith
+pub loop-a-preserved-in-255-1 : goal.loop-a-preserved-in-255-1
+loop-a-preserved-in-255-1 c =
+    let h = c.in-Some.ensures.steps in
+    let i = c.loop-a.invariant in
+    record {
+      largest = rw h.1.2 (largest-blocked _ _ i.largest (omega arith) (search rules) _ (take_all _ _ (rw (length-drop 1 c.loop-a.rest.now) (le_refl _))));
+      end = search rules;
+    }
+
+pub edges_of-edges-requires : goal.edges_of-edges-requires
+edges_of-edges-requires c =
+    let h = c.in-Some.ensures.steps in
+    let i = c.loop-a.invariant in
+    action-asked _ _ c.args.source.now.asked c.requires i.largest (omega arith) h.1.1
 
 pub row_sum-sum-requires : goal.row_sum-sum-requires
-unfolding edges_at
 row_sum-sum-requires c =
-    let asked = edges-asked c.requires.0 c.requires.1 c.loop-a.invariant.begun c.loop-a-test.true in
-    let place = largest-place _ _ _ _ c.loop-a.invariant asked.1 in
-    let limit = c.requires.0.edges (c.loop-a.a + 1) in
-    let store = c.requires.0.store in
-    let room = c.requires.2 in
-    (omega arith, asked.0.few, omega arith, c.requires.3)
+    let h = c.in-Some.ensures.steps in
+    let i = c.loop-a.invariant in
+    rw c.edges_of-edges.ensures (action-asked _ _ c.args.source.now.asked c.requires i.largest (omega arith) h.1.1).few
 
 pub rounded_up-requires : goal.rounded_up-requires
-unfolding edges_at
 rounded_up-requires c =
-    let asked = edges-asked c.requires.0 c.requires.1 c.loop-a.invariant.begun c.loop-a-test.true in
-    (c.requires.0.denominator, le_trans c.row_sum-sum.ensures.1 (mul-le-mul_right whole asked.0.weights))
+    let h = c.in-Some.ensures.steps in
+    let i = c.loop-a.invariant in
+    let weights = (action-asked _ _ c.args.source.now.asked c.requires i.largest (omega arith) h.1.1).weights in
+    (c.args.source.now.asked.denominator, le_trans c.row_sum-sum.ensures.1 (mul-le-mul_right whole (rw c.edges_of-edges.ensures weights)))
 
-pub overflow_sub-code : goal.overflow_sub-code
-overflow_sub-code c =
-    let asked = edges-asked c.requires.0 c.requires.1 c.loop-a.invariant.begun c.loop-a-test.true in
-    rw (add-one c.loop-a.a) asked.0.rises
+pub returns-in_default-split_at_checked : goal.returns-in_default-split_at_checked
+returns-in_default-split_at_checked c =
+    let h = c.in-Some.ensures.steps in
+    let i = c.loop-a.invariant in
+    let l = c.in_default-split_at_checked.ensures.cases in
+    (largest-short _ _ i.largest (omega arith) (λ e. search (rules, get_or-eq_default)) (rw (← h.1.1, ← c.edges_of-edges.ensures) l), i.largest.small)
 
 pub loop-a-preserved : goal.loop-a-preserved
-unfolding edges_at
 loop-a-preserved c =
+    let h = c.in-Some.ensures.steps in
     let i = c.loop-a.invariant in
-    let asked = edges-asked c.requires.0 c.requires.1 i.begun c.loop-a-test.true in
-    elim c.if-codes-code.branch [
-      | then-codes-code w ↦ rw (w.best-is, w.code-is) (largest-blocked _ _ _ _ i c.loop-a-test.true w.if-codes-code.true)
-      | else-codes-code w ↦
-          rw (w.best-is, w.code-is, w.max-best.ensures)
-          (largest-next _ _ _ _ i c.loop-a-test.true w.if-codes-code.false asked.0.few _ _ w.row_sum-sum.ensures.0 w.rounded_up.ensures.0
-          w.rounded_up.ensures.1)
-    ]
+    let s = c.in-Some-split_at_checked.ensures.cases in
+    let edges : c.edges_of-edges.result.now ≡ edges_of c.args.source.now.model.now c.loop-a.a-iterator.start =
+    c.edges_of-edges.ensures ∙ ap (edges_of c.args.source.now.model.now) h.1.1 in
+    let sum : c.row_sum-sum.result ≡ sum_of c.args.values.now.list (edges_of c.args.source.now.model.now c.loop-a.a-iterator.start) c.loop-a.rest.now =
+    c.row_sum-sum.ensures.0 ∙ rw (s.1, edges) (sum-row c.args.values.now.list _ c.loop-a.rest.now) in
+    record {
+      largest = rw (h.1.2, c.max-best.ensures, s.2, edges)
+          (largest-next _ _ i.largest (omega arith) (λ e. search (rules, get_or-eq_default)) (rw edges at s.0) _ (rw sum at c.rounded_up.ensures.0) c.rounded_up.ensures.1);
+      end = search rules;
+    }
 
 pub returns : goal.returns
-returns c = largest-end _ _ _ _ c.loop-a.invariant c.loop-a-test.false
+returns c =
+    let h = c.in-None.ensures.steps in
+    let i = c.loop-a.invariant in
+    (largest-end _ _ i.largest (omega arith), i.largest.small)

@@ -1,26 +1,35 @@
 -- The pass decides 11 to 13 and the search 14; what is kept describes the table of a pass that refuses nothing.
-use Rattle.std.proofs.Common.{sym, ap, ◌∙◌}
-use Rattle.table.specs.Index.{Pass, read_of}
-use Rattle.model.proofs.ScanLaws.{handed-on}
-use Rattle.table.proofs.Reading.{returned, lacking, all-there}
+use Rattle.std.proofs.Common.{◌≤◌, refl, ap, ◌∙◌, Err, length, rules}
+use Rattle.table.specs.Index.{scanned, and_numbers, unless_missing}
+use Rattle.table.proofs.Limits.{limits-nothing}
+use Rattle.std.proofs.lemmas.Result.{err_from_is_err_and}
+use Rattle.table.proofs.Reading.{promised, all-read}
 use Rattle.table.proofs.read.index_table.Goals as goal
 
+pub scan-requires : goal.scan-requires
+scan-requires c = limits-nothing _
+
 pub returns-in_err-seen : goal.returns-in_err-seen
-unfolding read_of
+unfolding scanned and_numbers
 returns-in_err-seen c =
-    let all = returned _ _ _ c.requires.1 _ c.requires.0 _ _ _ _ c.in_err-seen.ensures (handed-on c.from_residual.result _ c.from_residual.ensures.1) in
-    record { computes = all.0; leaves = ap (λ (q : Pass). q.kept) c.in_err-seen.ensures; reads = all.1 }
+    let room : 64 ≤ length c.args.table.now.nodes = search rules in
+    let handed = err_from_is_err_and c.from_residual.result c.from_residual.ensures.1 in
+    let all = promised _ _ c.args.table.now c.requires room _ _ _ (rw c.begin.ensures at c.in_err-seen.ensures.passes)
+    (handed.1 ∙ ap Err handed.2) in
+    record { computes = all.computes; leaves = all.leaves; reads = all.reads }
 
 pub returns-in-Some : goal.returns-in-Some
-unfolding read_of
+unfolding scanned unless_missing
 returns-in-Some c =
-    let all = returned _ _ _ c.requires.1 _ c.requires.0 _ _ _ _ c.in_ok-seen.ensures
-    (lacking _ _ c.at.result _ (sym c.missing_node.ensures ∙ c.in-Some.is) c.at.ensures.reason c.at.ensures.place) in
-    record { computes = all.0; leaves = ap (λ (q : Pass). q.kept) c.in_ok-seen.ensures; reads = all.1 }
+    let room : 64 ≤ length c.args.table.now.nodes = search rules in
+    let all = all-read _ _ c.args.table.now c.requires room _ _ _ (rw c.begin.ensures at c.in_ok-seen.ensures.passes)
+    (rw (← c.missing_of.ensures, c.in-Some.is, ← c.at.ensures.reason, ← c.at.ensures.place) refl) in
+    record { computes = all.computes; leaves = all.leaves; reads = all.reads }
 
 pub returns-in-None : goal.returns-in-None
-unfolding read_of
+unfolding scanned unless_missing
 returns-in-None c =
-    let all = returned _ _ _ c.requires.1 _ c.requires.0 _ _ _ _ c.in_ok-seen.ensures
-    (all-there _ _ (sym c.missing_node.ensures ∙ c.in-None.is)) in
-    record { computes = all.0; leaves = ap (λ (q : Pass). q.kept) c.in_ok-seen.ensures; reads = all.1 }
+    let room : 64 ≤ length c.args.table.now.nodes = search rules in
+    let all = all-read _ _ c.args.table.now c.requires room _ _ _ (rw c.begin.ensures at c.in_ok-seen.ensures.passes)
+    (rw (← c.missing_of.ensures, c.in-None.is) refl) in
+    record { computes = all.computes; leaves = all.leaves; reads = all.reads }

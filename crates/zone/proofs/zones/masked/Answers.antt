@@ -1,16 +1,17 @@
--- Shifted left by one, a mask has the bit of clock i at i, and 0 at clock 0.
-use Rattle.std.proofs.Common.{◌≡◌, ap, ℕ, ◌*◌, ◌/◌, ◌%◌, ◌^◌, ◌<◌, eqb, arith, zero, suc}
+-- By the clock. Shifted left by one, a mask has the bit of clock i at i, and 0 at clock 0.
+use Rattle.std.proofs.Common.{◌≡◌, refl, ℕ, zero, suc, ◌<◌, arith}
+use Rattle.std.proofs.lemmas.Bool.Decides.{nat_tests}
 use Rattle.zone.specs.Moves.{masked?}
 use Rattle.zone.proofs.zones.masked.Goals as goal
 
-shifted : (m c : ℕ) → c < 5 → eqb (m * 2 % 2 ^ 32 / 2 ^ c % 2) 1 ≡ masked? m c
-unfolding masked?
-shifted m zero h = let e : m * 2 % 2 ^ 32 / 2 ^ 0 % 2 ≡ 0 = omega arith in ap (λ n. eqb n 1) e
-shifted m (suc zero) h = let e : m * 2 % 2 ^ 32 / 2 ^ 1 % 2 ≡ m / 2 ^ 0 % 2 = omega arith in ap (λ n. eqb n 1) e
-shifted m (suc (suc zero)) h = let e : m * 2 % 2 ^ 32 / 2 ^ 2 % 2 ≡ m / 2 ^ 1 % 2 = omega arith in ap (λ n. eqb n 1) e
-shifted m (suc (suc (suc zero))) h = let e : m * 2 % 2 ^ 32 / 2 ^ 3 % 2 ≡ m / 2 ^ 2 % 2 = omega arith in ap (λ n. eqb n 1) e
-shifted m (suc (suc (suc (suc zero)))) h = let e : m * 2 % 2 ^ 32 / 2 ^ 4 % 2 ≡ m / 2 ^ 3 % 2 = omega arith in ap (λ n. eqb n 1) e
-shifted m (suc (suc (suc (suc (suc c))))) h = absurd (omega arith)
+clocks : {P : Type 0} (i : ℕ) → i < 5 → (i ≡ 0 → P) → (i ≡ 1 → P) → (i ≡ 2 → P) → (i ≡ 3 → P) → (i ≡ 4 → P) → P
+clocks zero h a b c d e = a refl
+clocks (suc zero) h a b c d e = b refl
+clocks (suc (suc zero)) h a b c d e = c refl
+clocks (suc (suc (suc zero))) h a b c d e = d refl
+clocks (suc (suc (suc (suc zero)))) h a b c d e = e refl
+clocks (suc (suc (suc (suc (suc i))))) h a b c d e = absurd (omega arith)
 
 pub returns : goal.returns
-returns c = shifted c.args.mask c.args.clock c.requires
+unfolding masked?
+returns c = clocks c.args.clock c.requires (λ e. rw e (grind (arith, nat_tests))) (λ e. rw e (grind (arith, nat_tests))) (λ e. rw e (grind (arith, nat_tests))) (λ e. rw e (grind (arith, nat_tests))) (λ e. rw e (grind (arith, nat_tests)))

@@ -1,5 +1,5 @@
--- `all`: before each node nothing was refused, and judging the rest gives what the whole walk gives.
-use Rattle.judge.specs.Looking.{model_of, table_of, all_of}
+-- `all`: before each node, judging the rest gives what the whole walk gives.
+use Rattle.judge.specs.Looking.{all_of}
 use Rattle.judge.specs.declared.judging.Judging.{Judging}
 use Rattle.judge.proofs.WalkLaws.{AtNode}
 use Rattle.judge.proofs.judging.Judging.all.Given as goal
@@ -7,4 +7,4 @@ use Rattle.judge.proofs.judging.Judging.all.Given as goal
 abbrev pub invariant-loop-n : goal.invariant-loop-n
 invariant-loop-n l =
     let j : Judging = l.self in
-    AtNode j.words.now j.whole (model_of j) j.contained.now (table_of j) (all_of j) j.count l.n
+    AtNode j.words.now j.model.now j.table.now (all_of j) j.table.now.count l.n

@@ -1,17 +1,15 @@
--- `rows`: before each row and successor nothing was refused, and judging the rest gives what all rows give.
-use Rattle.std.proofs.Common.{◌+◌}
-use Rattle.judge.specs.Looking.{model_of, table_of, rows_of}
+-- `rows`: before each row and successor, judging the rest gives what all rows give.
+use Rattle.judge.specs.Looking.{rows_of}
 use Rattle.judge.specs.declared.judging.Judging.{Judging}
 use Rattle.judge.proofs.WalkLaws.{AtRow, AtSuccessor}
 use Rattle.judge.proofs.judging.Judging.rows.Given as goal
 
-abbrev pub invariant-rows : goal.invariant-rows
-invariant-rows l =
+abbrev pub invariant-loop-a : goal.invariant-loop-a
+invariant-loop-a l =
     let j : Judging = l.self in
-    AtRow j.words.now j.whole (model_of j) j.contained.now (table_of j) (rows_of j l.n l.node) l.waited l.node.value l.end_action l.checked l.at l.a
+    AtRow j.words.now j.model.now j.table.now (rows_of j l.n) l.waited l.node.value l.a-iterator.end l.at l.a-iterator.start
 
-abbrev pub invariant-loop-edge : goal.invariant-loop-edge
-invariant-loop-edge l =
+abbrev pub invariant-loop-e : goal.invariant-loop-e
+invariant-loop-e l =
     let j : Judging = l.self in
-    AtSuccessor j.words.now j.whole (model_of j) j.contained.now (table_of j) (rows_of j l.n l.node) l.waited l.node.value l.end_action l.a l.reach
-    l.empty l.limit l.first l.end_edge l.checked l.at l.sum (l.first_edge + l.edge-index)
+    AtSuccessor j.words.now j.model.now j.table.now (rows_of j l.n) l.waited l.node.value l.a-iterator.end l.a l.reach l.limit l.at l.sum l.e

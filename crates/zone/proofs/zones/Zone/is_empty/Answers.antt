@@ -1,20 +1,22 @@
--- One clock more.
-use Rattle.std.proofs.Common.{◌≡◌, ◌∙◌, sym, ap, arith, refl}
-use Rattle.zone.specs.Cells.{negative?}
+-- The library's test of the five clocks is the definition's.
+use Rattle.std.proofs.Common.{◌≡◌, ◌∙◌, refl, Bool, true, false, not, ◌&&◌, ◌||◌, ◌*◌, get_or, rules}
+use Rattle.std.proofs.lemmas.Iterator.{YieldsList-from_range}
+use Rattle.std.proofs.lemmas.Iterator.Search.{any_from_yields_List}
+use borrow.Author.Tests.{tests}
+use Rattle.zone.specs.Cells.{negative?, past_end}
 use Rattle.zone.specs.Squares.{all?, empty?}
-use Rattle.zone.proofs.Bools.{not-not}
-use Rattle.zone.proofs.Loops.{some_more, on-diagonal}
 use Rattle.zone.proofs.zones.Zone.is_empty.Goals as goal
 
-pub loop-i-init : goal.loop-i-init
-unfolding all?
-loop-i-init c = refl
-
-pub loop-i-preserved : goal.loop-i-preserved
-loop-i-preserved c =
-    some_more c.loop-i.i _ c.loop-i.invariant
-    (c.negative-empty.ensures ∙ ap negative? (sym (on-diagonal c.args.self c.loop-i.i)) ∙ sym (not-not _))
+five : (a b c d e : Bool) → (a || (b || (c || (d || (e || false))))) ≡ not (true && not a && not b && not c && not d && not e)
+five true b c d e = refl
+five false true c d e = refl
+five false false true d e = refl
+five false false false true e = refl
+five false false false false true = refl
+five false false false false false = refl
 
 pub returns : goal.returns
-unfolding empty?
-returns c = let e : c.loop-i.i ≡ 5 = omega arith in rw e at c.loop-i.invariant
+unfolding empty? all?
+returns c =
+    any_from_yields_List (λ i. negative? (get_or c.args.self.cells (i * 6) past_end)) _ _ _ c.any.ensures.ran (YieldsList-from_range 0 5 5 refl refl)
+    (λ x b q k. search (rules, tests)) ∙ five _ _ _ _ _

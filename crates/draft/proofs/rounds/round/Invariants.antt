@@ -1,7 +1,0 @@
--- The values of the nodes so far are replaced, each by what the old ones give; those that it gives again are left as they are.
-use Rattle.draft.proofs.RoundCode.{RoundTo}
-use Rattle.draft.proofs.rounds.round.Given as goal
-
-abbrev pub invariant-loop-n : goal.invariant-loop-n
-invariant-loop-n l =
-    RoundTo l.source.index.now l.source.edges.now l.graph.nodes l.graph.codes l.graph.ends l.graph.count l.values.list l.list l.changed l.n

@@ -1,0 +1,4 @@
+-- The laws of a pass over words.
+pub mod PassLaws
+pub mod Run
+pub mod Named

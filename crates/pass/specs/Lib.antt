@@ -1,0 +1,2 @@
+-- One pass over the words of a file.
+pub mod Steps
