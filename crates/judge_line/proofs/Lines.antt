@@ -1,7 +1,7 @@
 -- Lines that grow part by part at their end are the lines of the two answers. Assumes nothing.
 use Rattle.std.proofs.Common.{◌≡◌, ℕ, ◌<◌, ◌^◌, List, [], ◌++◌, Ok, Err, ◌∙◌, append_assoc}
 use Rattle.std.specs.Fmt as std
-use Rattle.answers.specs.Checks.{refused}
+use Rattle.answers.specs.Checks.{refused, accepted}
 use Rattle.answers.specs.Refusals.{number, answer_of}
 use Rattle.answers.specs.declared.Refusal.{Refusal}
 use Rattle.acceptance.specs.declared.certificate.Certificate.{Certificate}
@@ -22,13 +22,13 @@ seven a b c d e f g =
     append_assoc (a ++ b ++ c ++ d ++ e) f g ∙ append_assoc (a ++ b ++ c ++ d) e (f ++ g) ∙ five a b c d (e ++ (f ++ g))
 
 -- `ACCEPTED b whole nodes` and a line feed
-pub accepted_shown :
-    (line : Line) (k : Certificate) {o a b c d e f g : List ℕ} → line.0 ≡ Ok k → k.b < 2 ^ 64 → k.whole < 2 ^ 64 → k.nodes < 2 ^ 64 →
-    o ≡ [] → a ≡ o ++ (accepted_text ++ space) → b ≡ a ++ std.decimal k.b → c ≡ b ++ space → d ≡ c ++ std.decimal k.whole →
-    e ≡ d ++ space → f ≡ e ++ std.decimal k.nodes → g ≡ f ++ line_feed → g ≡ shown line
-unfolding line_of answer_of
-accepted_shown line k same hb hw hn n p q r s t u v =
-    rw (v, u, t, s, r, q, p, n, same, in_decimal k.b hb, in_decimal k.whole hw, in_decimal k.nodes hn)
+pub accepted_joined :
+    (k : Certificate) {o a b c d e f g : List ℕ} → k.b < 2 ^ 64 → k.whole < 2 ^ 64 → k.nodes < 2 ^ 64 → o ≡ [] →
+    a ≡ o ++ (accepted_text ++ space) → b ≡ a ++ std.decimal k.b → c ≡ b ++ space → d ≡ c ++ std.decimal k.whole → e ≡ d ++ space →
+    f ≡ e ++ std.decimal k.nodes → g ≡ f ++ line_feed → g ≡ line_of (accepted k)
+unfolding line_of
+accepted_joined k hb hw hn n p q r s t u v =
+    rw (v, u, t, s, r, q, p, n, in_decimal k.b hb, in_decimal k.whole hw, in_decimal k.nodes hn)
     (seven (accepted_text ++ space) (decimal k.b) space (decimal k.whole) space (decimal k.nodes) line_feed)
 
 -- `REFUSED number place` and a line feed, whatever the number
@@ -38,6 +38,11 @@ pub refused_joined :
 unfolding line_of
 refused_joined told place hn hp n p q s t u =
     rw (u, t, s, q, p, n, in_decimal told hn, in_decimal place hp) (five (refused_text ++ space) (decimal told) space (decimal place) line_feed)
+
+-- the line of an acceptance is that of its certificate
+pub accepted_shown : (line : Line) (k : Certificate) {e : List ℕ} → line.0 ≡ Ok k → e ≡ line_of (accepted k) → e ≡ shown line
+unfolding answer_of
+accepted_shown line k same h = rw same h
 
 -- the line of a refusal is that of its number and its place
 pub refused_shown :
