@@ -52,7 +52,7 @@ pub(crate) fn accepted_line(certificate: Certificate) -> ArrayString<LONGEST>
 pub struct Line(pub Result<Certificate, Refusal>);
 
 impl Line {
-    /// Its text, gathered on the stack, so that it can be written at once.
+    /// Its text.
     pub fn text(&self) -> ArrayString<LONGEST>
         ensures { result.bytes ≡ shown self.now }
     {

@@ -41,6 +41,7 @@ pub fn put_words<'a>(bytes: &[u8], words: &'a mut [u32]) -> &'a [u32]
 }
 
 /// The words of the bytes, in the first cells of a slice. Before anything is read as words, 42 where they are too many for it; then 41 where they are no words.
+// kept: for whoever has space of its own; the programs ask first, and fill theirs only then
 pub fn words_in<'a>(bytes: &[u8], words: &'a mut [u32]) -> Result<&'a [u32], Refusal>
     ensures { MatchResult result (λ list. AreWords (length words.old) bytes.now list.now) (NoWords (length words.old) bytes.now) }
 {
