@@ -27,7 +27,7 @@
  * need memcpy and memset, which the linker finds as for any C program.
  *
  * STACK. The need is bounded and does not grow with the input: there is no recursion, and every frame has a fixed size. Measured on
- * x86-64: about 24 KiB for miss_chance_judge, 29 KiB for miss_chance_draft, 24 KiB for miss_chance_submit, 7 KiB for miss_chance_read_model,
+ * x86-64: about 16 KiB for miss_chance_judge, 32 KiB for miss_chance_draft, 17 KiB for miss_chance_submit, 7 KiB for miss_chance_read_model,
  * 1 KiB for miss_chance_rank and for the two questions about zones. A thread with 256 KiB of stack is enough for each call.
  */
 #ifndef MISS_CHANCE_H

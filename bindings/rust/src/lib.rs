@@ -42,7 +42,7 @@
 //! together first (`u32::from_be_bytes`). The calls keep no state but what the caller lends, and
 //! may run in several threads at once; only [`draft`] allocates, for the table that it gives, and
 //! [`draft_into`] does without. A thread with 256 KiB of stack is enough for each: [`judge`] takes
-//! about 24 KiB, [`draft`] 29 KiB, [`submit`] 24 KiB, [`read_model`] 7 KiB, [`rank`] and the two
+//! about 16 KiB, [`draft`] 32 KiB, [`submit`] 17 KiB, [`read_model`] 7 KiB, [`rank`] and the two
 //! questions 1 KiB, whatever the input.
 //!
 //! # The library

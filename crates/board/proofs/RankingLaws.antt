@@ -15,7 +15,7 @@ use Rattle.board.specs.Deciding.{good_lent?}
 use Rattle.board.specs.Ordering.{Orders, RanksLent}
 use Rattle.board.proofs.DecisionLaws.{as_good, as_read}
 
-not-ranked : (lent : Result (List Slot) ℕ) → (T (good_lent? lent) → ⊥) → RanksLent lent (ranking_of (refused 54 0))
+pub not-ranked : (lent : Result (List Slot) ℕ) → (T (good_lent? lent) → ⊥) → RanksLent lent (ranking_of (refused 54 0))
 not-ranked lent bad = record {
   ranks = λ ss h. record {
     said = refused 54 0;

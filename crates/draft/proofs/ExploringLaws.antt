@@ -11,7 +11,7 @@ use Rattle.answers.specs.Checks.{Answer}
 use Rattle.std.specs.Prelude.{Ok}
 use Rattle.zone.specs.Squares.{universe, reset_square, empty?, with_bound}
 use Rattle.zone.specs.Stores.{zone_at}
-use Rattle.zone.specs.Reading.{cell_of, with_word, read_from, read_zone, zone_read}
+use Rattle.zone.specs.Reading.{cell_of, with_word, read_from, read_zone, outcome_zone, zone_read}
 use Rattle.zone.specs.declared.zones.Zone.{Zone as Square}
 use Rattle.model.specs.Fields.{mask_of, lands_at}
 use Rattle.model.specs.Model.{Edge, Action, Location, Model, edge_of}
@@ -57,7 +57,7 @@ read_back C few (b ∷ Z) h p z =
     rw (bound-good C few b h.0, bound-back C few b h.0) (read_back C few Z h.1 (suc p) (with_bound b.i b.j (cell_of b) z))
 
 front-zone : (C : ℕ) → C ≤ 4 → (Z : Zone) → AllFit C Z → {n : ℕ} → n ≡ C → zone_read n (map bound_word Z) ≡ with_bounds Z universe
-unfolding read_zone zone_read
+unfolding read_zone outcome_zone zone_read
 front-zone C few Z h e = rw (e, read_back C few Z h 0 universe)
 
 module _ {M : Model} {m : IndexedModel} (x : Indexed M m) (good : GoodModel M) (formed : WellFormed M) where

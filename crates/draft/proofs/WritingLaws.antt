@@ -34,7 +34,7 @@ node_put L bs ws n w v h e =
     let value : take (1 + n + 1) (set X (1 + n) v) ≡ take (1 + n) X ++ v ∷ [] = take_more_set X (1 + n) v (omega arith) in
     put_end (set X (1 + n) v) ws (1 + n + 1) ∙ rw (value, bounds, first) (append_assoc (w ∷ bs) (v ∷ []) ws)
 
-node-length : (n : Node) (v : ℕ) → length (node_text n v) ≡ node_size n
+pub node-length : (n : Node) (v : ℕ) → length (node_text n v) ≡ node_size n
 unfolding node_text
 node-length n v = let bounds = length-append n.front.bounds.items in let rows = length-map n.rows.items row_word in simp (length-append, length-map) (omega arith)
 

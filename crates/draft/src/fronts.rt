@@ -94,10 +94,10 @@ impl Source<'_> {
     }
 
     // The zone of a node, from the words of its bounds.
-    #[tactic(auto, unfolding(zone::specs::Reading::zone_read))]
+    #[tactic(auto, unfolding(zone::specs::Reading::zone_read, zone::specs::Reading::outcome_zone))]
     pub(crate) fn zone(&self, front: &Front) -> Zone
         ensures { result ≡ zone_read self.now.model.now.index.clocks front.now.bounds.items }
     {
-        read_zone(self.clocks(), &front.bounds).unwrap_or(Zone::universe())
+        read_zone(self.clocks(), &front.bounds).unwrap_or_else(|bad| bad.zone)
     }
 }

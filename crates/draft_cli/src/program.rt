@@ -36,7 +36,9 @@ pub(crate) fn drafted(bytes: &[u8], lent: &mut [u32]) -> Result<usize, Refusal>
     ensures drafts { DraftsInput bytes.now lent.old (answer_of result) lent.new }
     ensures fits { IfOk result (λ n. n ≤ length lent.new) }
 {
+    // first, so that no space is filled for bytes that are refused
+    words::check_bytes(bytes, ASKED_WORDS)?;
     let mut space = [0u32; ASKED_WORDS];
-    let list = words::words_in(bytes, &mut space)?;
+    let list = words::put_words(bytes, &mut space);
     call::draft(model_of(list), rounds_of(list), lent)
 }

@@ -11,7 +11,7 @@ use std::io::{Read, Write};
 
 /// A read failed behind so many bytes.
 // kept: a count, as std's reads give, since the buffer is the caller's
-#[derive(Debug, Drop)]
+#[derive(Clone, Copy, Debug)]
 pub struct ReadFailed {
     pub count: usize,
     pub error: io::Error,

@@ -1,6 +1,9 @@
 // The call that judges a table against a model.
 ghost use Rattle.std.specs.Prelude.{◌≡◌, ◌<◌};
+ghost use Rattle.answers.specs.Checks.{accepted};
 ghost use Rattle.answers.specs.Refusals.{answer_of};
+ghost use Rattle.model.specs.Reading.{ReadModel};
+ghost use Rattle.model.specs.Indexed.{KeptFor};
 ghost use Rattle.acceptance.specs.Judging.{Judged, Exactly, BoundsSchedulers};
 ghost use Rattle.judge.specs.Looking.{start_of};
 
@@ -37,6 +40,35 @@ impl Judging<'_> {
     }
 }
 
+/// Judges a table against an accepted model, from what reading it gave and what is kept of it: what the table certifies, or the refusal of its words, of
+/// its nodes, or of its start node.
+// kept: a function of its own, behind the model's acceptance. The compiler fills a function's structs where its code begins, so that in `judge` itself the
+// table would be filled for a refused model too, and twice for an accepted one (tried). The model's words are there for the clauses alone.
+pub(crate) fn judge_kept(
+    model: &[u32],
+    read: &ModelRead,
+    kept: &IndexedModel,
+    table: &[u32],
+) -> Result<Certificate, Refusal>
+    requires accepts { ReadModel model.now (accepted read.now.counts) }
+    requires keeps { KeptFor model.now read.now kept.now }
+    ensures answers { Judged model.now table.now (answer_of result) }
+    ensures exactly { Exactly model.now table.now (answer_of result) }
+    ensures bounds { BoundsSchedulers model.now (answer_of result) }
+{
+    let mut indexed_table = IndexedTable::default();
+    index_table(&kept.index, table, &mut indexed_table)?;
+    let nodes = &indexed_table.nodes[..indexed_table.count];
+    let judging = Judging {
+        words: table,
+        model: kept,
+        table: &indexed_table,
+        contained: &reaching::contained(nodes, &kept.zones),
+    };
+    judging.all()?;
+    judging.start(read.initial)
+}
+
 /// Judges a table against a model: what it certifies, or the model's refusal first, then that of the table's words, of its nodes, and of its start
 /// node. The place of a refusal 1 to 6 is in the model, of the others in the table.
 pub fn judge(model: &[u32], table: &[u32]) -> Result<Certificate, Refusal>
@@ -45,20 +77,10 @@ pub fn judge(model: &[u32], table: &[u32]) -> Result<Certificate, Refusal>
     ensures bounds { BoundsSchedulers model.now (answer_of result) }
 {
     let mut indexed_model = IndexedModel::EMPTY;
-    let read = index_model(model, &mut indexed_model);
+    let answer = index_model(model, &mut indexed_model);
     // kept: `let .. else`, by which document 01 has the model's answer taken apart
-    let Ok(ModelRead { initial, .. }) = read else {
-        return Err(read.unwrap_err());
+    let Ok(read) = answer else {
+        return Err(answer.unwrap_err());
     };
-    let mut indexed_table = IndexedTable::default();
-    index_table(&indexed_model.index, table, &mut indexed_table)?;
-    let nodes = &indexed_table.nodes[..indexed_table.count];
-    let judging = Judging {
-        words: table,
-        model: &indexed_model,
-        table: &indexed_table,
-        contained: &reaching::contained(nodes, &indexed_model.zones),
-    };
-    judging.all()?;
-    judging.start(initial)
+    judge_kept(model, &read, &indexed_model, table)
 }

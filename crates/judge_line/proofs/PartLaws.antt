@@ -1,8 +1,9 @@
 -- Laws of the two parts of the words: both are found by the place of the first word of kind 7. Assumes nothing.
-use Rattle.std.proofs.Common.{◌≡◌, ℕ, suc, ◌+◌, ◌≤◌, Bool, true, false, not, cond, List, [], ◌∷◌, Option, Some, None, position, nat_eq, nat_lt, length, refl, ap, ◌∙◌, take, drop, arith}
+use Rattle.std.proofs.Common.{◌≡◌, ℕ, suc, ◌+◌, ◌≤◌, Bool, true, false, not, cond, List, [], ◌∷◌, ◌++◌, Option, Some, None, position, nat_eq, nat_lt, length, refl, ap, ◌∙◌, take, drop, arith}
 use Rattle.std.specs.List.{position_or_len}
 use Rattle.std.specs.Option.{unwrap_or}
 use Rattle.std.proofs.lemmas.Bool.{ltb-false}
+use Rattle.std.proofs.lemmas.List.{take-append-drop}
 use Rattle.std.proofs.lemmas.List.Sums.{prefix_len-le-length}
 use Rattle.zone.specs.Words.{kind}
 use Rattle.judge_line.specs.Bytes.{table_part, model_part}
@@ -45,6 +46,10 @@ from (w ∷ ws) = by (begins w) (from ws)
         drop (cond (not b) (1 + position_or_len begins ws) 0) (w ∷ ws) ≡ cond b (w ∷ ws) (table_part ws)
     by true e = refl
     by false e = rw (next ws) e
+
+-- the two parts, one after the other, are all the words
+pub split : (list : List ℕ) → model_part list ++ table_part list ≡ list
+split list = rw (← until list, ← from list) (take-append-drop (position_or_len begins list) list)
 
 module _ (list : List ℕ) (first : Option ℕ) (at : ℕ) (found : first ≡ position begins list) (ends : at ≡ unwrap_or first (length list)) where
   here : at ≡ position_or_len begins list

@@ -13,8 +13,8 @@ use Rattle.answers.specs.Refusals.{number, answer_of}
 use Rattle.answers.specs.declared.Refusal.{Refusal}
 use Rattle.acceptance.specs.Judging.{Judged, BoundsSchedulers}
 use Rattle.acceptance.specs.declared.certificate.Certificate.{Certificate}
-use Rattle.judge_line.specs.Bytes.{table_part, model_part}
-use Rattle.judge_line.specs.Words.{AreWords, NoWords}
+use Rattle.judge_line.specs.Bytes.{words_of, table_part, model_part}
+use Rattle.judge_line.specs.Words.{FitWords, NoWords}
 use Rattle.judge_line.specs.Program.{model_in, table_in, program_checks, ProgramAnswers}
 
 module _ (bytes : List ℕ) where
@@ -44,11 +44,11 @@ answers_refusal bytes (Err e) r (inl (l, w)) h = rw (h, w) (answers-42 bytes l)
 answers_refusal bytes (Err e) r (inr (l, (n, w))) h = rw (h, w) (answers-41 bytes l n)
 
 -- what is judged are the two parts of the words
-pub answers_verdict : (bytes list model table : List ℕ) (answer : Answer Certificate) → AreWords 16384 bytes list → model ≡ model_part list →
-    table ≡ table_part list → Judged model table answer → BoundsSchedulers model answer → ProgramAnswers bytes answer
-answers_verdict bytes list model table answer h m t j b =
-    let first : model ≡ model_in bytes = m ∙ ap model_part h.same in
-    let second : table ≡ table_in bytes = t ∙ ap table_part h.same in
+pub answers_verdict : (bytes list model table : List ℕ) (answer : Answer Certificate) → FitWords 16384 bytes → list ≡ words_of bytes →
+    model ≡ model_part list → table ≡ table_part list → Judged model table answer → BoundsSchedulers model answer → ProgramAnswers bytes answer
+answers_verdict bytes list model table answer h w m t j b =
+    let first : model ≡ model_in bytes = m ∙ ap model_part w in
+    let second : table ≡ table_in bytes = t ∙ ap table_part w in
     program-answers bytes h.few h.whole answer
     (subst (λ (l : List ℕ). Judged (model_in bytes) l answer) second (subst (λ (l : List ℕ). Judged l table answer) first j))
     (subst (λ (l : List ℕ). BoundsSchedulers l answer) first b)

@@ -1,6 +1,6 @@
--- The definitions that the contracts of `judge_line` rest on: document 01's on the program, then the algorithms.
+-- The definitions that the contracts of `judge_line` rest on: document 01's on the program, then the algorithm.
 pub mod Bytes
-pub mod Words
 pub mod Text
 pub mod Program
 pub mod Printed
+pub mod Words

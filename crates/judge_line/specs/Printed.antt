@@ -1,4 +1,4 @@
--- Algorithm: the text of a line. Assumes nothing.
+-- What a line of the program is as text (document 01, The four calls and their refusals): the line of its answer. Assumes nothing.
 use Rattle.std.specs.Prelude.{ℕ, List}
 use Rattle.answers.specs.Refusals.{answer_of}
 use Rattle.judge_line.specs.Text.{line_of}

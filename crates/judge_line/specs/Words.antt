@@ -4,6 +4,11 @@ use Rattle.answers.specs.declared.Reason.TheVariants.{TooLong, NotWords}
 use Rattle.answers.specs.declared.Refusal.{Refusal}
 use Rattle.judge_line.specs.Bytes.{words_of}
 
+-- the bytes are words, at most `most` of them
+pub record FitWords (most : ℕ) (bytes : List ℕ) : Type 0 where
+  pub few : length bytes ≤ 4 * most
+  pub whole : length bytes % 4 ≡ 0
+
 -- the bytes are words, at most `most` of them, and the list has them
 pub record AreWords (most : ℕ) (bytes list : List ℕ) : Type 0 where
   pub few : length bytes ≤ 4 * most

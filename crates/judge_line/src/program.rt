@@ -20,9 +20,10 @@ pub const READ_BYTES: usize = 4 * MOST_WORDS + 1;
 pub(crate) fn judged(bytes: &[u8]) -> Result<Certificate, Refusal>
     ensures { ProgramAnswers bytes.now (answer_of result) }
 {
+    // first, so that no space is filled for bytes that are refused
+    words::check_bytes(bytes, MOST_WORDS)?;
     let mut space = [0u32; MOST_WORDS];
-    let list = words::words_in(bytes, &mut space)?;
-    let (model, table) = parts::parts(list);
+    let (model, table) = parts::parts(words::put_words(bytes, &mut space));
     verdict::judge(model, table)
 }
 

@@ -62,7 +62,7 @@ abbrev Right : List ℕ → Counts → Type 0
 Right words counts = counts ≡ counts_of words
 
 -- what the call answers where the words are good: m is the first edge that leads nowhere, z the table of the start valuations
-abbrev whole_of : Square → Seen → Option ℕ → Answer Counts
+abbrev pub whole_of : Square → Seen → Option ℕ → Answer Counts
 whole_of z s m = answer_of (counted (whole_read m z s))
 
 -- 6

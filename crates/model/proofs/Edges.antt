@@ -7,8 +7,9 @@ use native.Mathlib.Omega.{arith}
 use borrow.Author.Tests.{eqb-true, lt-leb}
 use lib.Dec.{leb, ltb}
 use Rattle.std.proofs.Common.{Option, Some, None}
-use Rattle.std.specs.List.{position}
+use Rattle.std.specs.List.{position, position_from}
 use Rattle.std.proofs.lemmas.Bool.Decides.{nat_tests}
+use Rattle.std.proofs.lemmas.Iterator.Adapters.{position_from-zero}
 use Rattle.zone.specs.Words.{kind}
 use Rattle.answers.specs.Checks.{Answer, refused, Check, First}
 use Rattle.model.specs.Kinds.{Kind, none, head, location, action, edge, bound, start, number, is, kind_of}
@@ -20,19 +21,27 @@ use Rattle.model.specs.declared.seen.Seen.{Seen}
 use Rattle.model.specs.declared.read.Counts.{Counts}
 use Rattle.model.proofs.KindLaws.{kind_is}
 use Rattle.pass.proofs.Run.{seen_end}
-use Rattle.pass.proofs.Named.{lacking-first, searched}
+use Rattle.pass.proofs.Named.{from-first, searched}
 
 -- the test of the definition is that of the call
 lands : (L w : ℕ) → (not (is edge w) || ltb (lands_at w) L) ≡ not (lacks_location? L w)
 lands L w = grind (arith, nat_tests)
 
--- the first edge whose location is missing is the one that refusal 5 names; f gives the answer to it
+-- the first edge whose location is missing is the one that refusal 5 names; f gives the answer to it: of words the first of which has index p
+pub edges-from :
+    (P : Counts → Type 0) (f : Option ℕ → Answer Counts) → ((p : ℕ) → f (Some p) ≡ refused 5 p) → (L p : ℕ) (ws : List ℕ) (more : List Check) →
+    (position_from (lacks_location? L) p ws ≡ None → First more P (f None)) →
+    First (edge_checks L p ws ++ more) P (f (position_from (lacks_location? L) p ws))
+unfolding edge_checks
+edges-from P f refuses L p ws more =
+    from-first P f 5 refuses (lacks_location? L) _ (lands L) (edge_checks L) (λ p. refl) (λ p w ws. refl) more p ws
+
+-- and of all words
 pub edges-first :
     (P : Counts → Type 0) (f : Option ℕ → Answer Counts) → ((p : ℕ) → f (Some p) ≡ refused 5 p) → (L : ℕ) (ws : List ℕ) (more : List Check) →
     (position (lacks_location? L) ws ≡ None → First more P (f None)) → First (edge_checks L 0 ws ++ more) P (f (position (lacks_location? L) ws))
-unfolding edge_checks
-edges-first P f refuses L ws more =
-    lacking-first P f 5 refuses (lacks_location? L) _ (lands L) (edge_checks L) (λ p. refl) (λ p w ws. refl) more ws
+edges-first P f refuses L ws more h =
+    rw (position_from-zero (lacks_location? L) ws) (edges-from P f refuses L 0 ws more (rw (position_from-zero (lacks_location? L) ws) at h))
 
 -- ---- the furthest location that the edges name
 

@@ -23,16 +23,13 @@ module _
     word_first false m p cs X h rest = inl (tt, rest h)
     word_first true m p cs X h rest = inr ((λ t. t), refuses p)
 
-    from-first : (p : ℕ) (ws : List ℕ) → (position_from lacks? p ws ≡ None → First more P (f None)) →
+    pub from-first : (p : ℕ) (ws : List ℕ) → (position_from lacks? p ws ≡ None → First more P (f None)) →
         First (checks p ws ++ more) P (f (position_from lacks? p ws))
     from-first p [] h = rw (none p) (h refl)
     from-first p (w ∷ ws) h =
         rw (one p w ws, opposite w, add-one p)
         (word_first (lacks? w) (position_from lacks? (suc p) ws) p (checks (suc p) ws ++ more) (First more P (f None)) (rw (add-one p) at h)
         (from-first (suc p) ws))
-
-    pub lacking-first : (ws : List ℕ) → (position lacks? ws ≡ None → First more P (f None)) → First (checks 0 ws ++ more) P (f (position lacks? ws))
-    lacking-first ws = rw (position_from-zero lacks? ws) (from-first 0 ws)
 
 -- ---- the furthest number f of the words read so far: a word takes none back, and lacks none that f reaches
 module _

@@ -164,7 +164,7 @@ module _ (M : Model) (m : IndexedModel) (i : Indexed M m) where
       (λ e. absurd (omega (arith, ap length e))) g.1
 
 module _ (M : Model) (m : IndexedModel) (i : Indexed M m) (words : List ℕ) where
-  nodes-end : Run (steps m.index) nothing 0 words → (seen_end (steps m.index) nothing 0 words).nodes ≡ count_of (table_number node) words
+  pub nodes-end : Run (steps m.index) nothing 0 words → (seen_end (steps m.index) nothing 0 words).nodes ≡ count_of (table_number node) words
   nodes-end g =
       let a = agrees-end M m i (whole_of (get_or words 0 0)) [] words nothing 0 (agrees-nothing M m _) (λ e. refl) g in
       a.tallies.nodes ∙ count_reversed (table_number node) words

@@ -233,7 +233,7 @@ limits-nothing x = record {
 }
 
 module _ (x : Index) (s : Seen) (w : ℕ) (fits : IndexFits x) (h : WithinLimits x s) (f : checked x s w ≡ Ok tt) where
-  limits_with : WithinLimits x (seen_with x s w)
+  pub limits_with : WithinLimits x (seen_with x s w)
   unfolding seen_with
   limits_with = limits-kind x s fits h w (table_kind_of w) (passes x s w f)
 

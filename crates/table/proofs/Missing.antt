@@ -6,9 +6,10 @@ use mathlib.Core.List.{List, []}
 use native.Mathlib.Omega.{arith}
 use borrow.Author.Tests.{eqb-true, lt-leb}
 use lib.Dec.{leb, ltb}
-use Rattle.std.proofs.Common.{position}
+use Rattle.std.specs.List.{position, position_from}
 use Rattle.std.proofs.lemmas.Bool.Decides.{nat_tests}
 use Rattle.std.proofs.lemmas.List.{append-nil}
+use Rattle.std.proofs.lemmas.Iterator.Adapters.{position_from-zero}
 use Rattle.answers.specs.Checks.{First}
 use Rattle.answers.specs.Refusals.{number, answer_of}
 use Rattle.zone.specs.Words.{kind}
@@ -18,7 +19,7 @@ use Rattle.model.specs.TableKinds.{is_table, table_kind_of}
 use Rattle.model.specs.declared.index.Index.{Index}
 use Rattle.model.proofs.TableKindLaws.{kind-is}
 use Rattle.pass.proofs.Run.{seen_end}
-use Rattle.pass.proofs.Named.{lacking-first, searched}
+use Rattle.pass.proofs.Named.{from-first, searched}
 use Rattle.table.specs.Fields.{number_of}
 use Rattle.table.specs.Reading.{number_checks}
 use Rattle.table.specs.Scan.{nothing, with_number, seen_with_kind, seen_with}
@@ -30,14 +31,19 @@ use Rattle.table.proofs.ScanLaws.{in_row}
 there : (nodes w : ℕ) → (not (is_table successor w || is_table start_node w) || ltb (number_of w) nodes) ≡ not (lacks_node? nodes w)
 there nodes w = grind (arith, nat_tests)
 
--- the first word whose node is missing is the one that refusal 14 names
+-- the first word whose node is missing is the one that refusal 14 names: of words the first of which has index p
+pub numbers-from : (nodes p : ℕ) (ws : List ℕ) →
+    First (number_checks nodes p ws) (λ (t : Unit {0}). Unit {0}) (answer_of (unless_missing (position_from (lacks_node? nodes) p ws)))
+unfolding number_checks unless_missing answer_of number
+numbers-from nodes p ws =
+    rw (append-nil (number_checks nodes p ws)) at
+    (from-first (λ t. Unit {0}) (λ m. answer_of (unless_missing m)) 14 (λ p. refl) (lacks_node? nodes) _ (there nodes) (number_checks nodes)
+    (λ p. refl) (λ p w ws. refl) [] p ws λ e. tt)
+
+-- and of all words
 pub numbers-first : (nodes : ℕ) (ws : List ℕ) →
     First (number_checks nodes 0 ws) (λ (t : Unit {0}). Unit {0}) (answer_of (unless_missing (position (lacks_node? nodes) ws)))
-unfolding number_checks unless_missing answer_of number
-numbers-first nodes ws =
-    rw (append-nil (number_checks nodes 0 ws)) at
-    (lacking-first (λ t. Unit {0}) (λ m. answer_of (unless_missing m)) 14 (λ p. refl) (lacks_node? nodes) _ (there nodes) (number_checks nodes)
-    (λ p. refl) (λ p w ws. refl) [] ws λ e. tt)
+numbers-first nodes ws = rw (position_from-zero (lacks_node? nodes) ws) (numbers-from nodes 0 ws)
 
 -- ---- the furthest node that the words name
 

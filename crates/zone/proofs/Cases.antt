@@ -10,7 +10,7 @@ use Rattle.answers.specs.Checks.{accepted}
 use Rattle.zone.specs.Questions.{AskedEmpty, AskedInside}
 use Rattle.zone.specs.Cells.{tighter?, tighter_of, sum, negative?}
 use Rattle.zone.specs.Squares.{list_of, with_bound, tightened, passed_below, all?, empty?, inside?}
-use Rattle.zone.specs.Reading.{with_word, read_from, read_zone, zone_read}
+use Rattle.zone.specs.Reading.{with_word, read_from, read_zone, outcome_zone, zone_read}
 use Rattle.zone.proofs.Decided.{good-empty, good-inside}
 
 -- clock 1 at most 3, clock 2 - clock 1 at most 2
@@ -33,12 +33,13 @@ insides : (read_zone 2 inner ≡ Ok (zone_read 2 inner)) × (read_zone 2 five �
     ((empty? (tightened (zone_read 2 inner)) || inside? (tightened (zone_read 2 inner)) (zone_read 2 four)) ≡ false)
 unfolding
     bound_of bound_fields? good_bound? tighter? tighter_of sum negative? list_of with_bound passed_below all? empty? inside? with_word read_from
-    read_zone zone_read
+    read_zone outcome_zone zone_read
 insides = (refl, refl, refl, refl, refl)
 
 empties : (read_zone 1 between ≡ Ok (zone_read 1 between)) × (empty? (tightened (zone_read 1 between)) ≡ false)
 unfolding
-    bound_of bound_fields? good_bound? tighter? tighter_of sum negative? list_of with_bound passed_below all? empty? with_word read_from read_zone zone_read
+    bound_of bound_fields? good_bound? tighter? tighter_of sum negative? list_of with_bound passed_below all? empty? with_word read_from read_zone outcome_zone
+    zone_read
 empties = (refl, refl)
 
 pub zone-cases : AskedInside 2 inner five (accepted true) × AskedInside 2 inner four (accepted false) × AskedEmpty 1 between (accepted false)

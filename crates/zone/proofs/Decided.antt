@@ -18,6 +18,7 @@ use Rattle.zone.specs.Questions.{clocks?, clock_check, bound_checks, AskedEmpty,
 use Rattle.zone.specs.Squares.{universe, tightened, empty?, inside?}
 use Rattle.zone.specs.Reading.{with_word, read_from, read_zone}
 use Rattle.zone.specs.declared.zones.Zone.{Zone as Square}
+use Rattle.zone.specs.declared.reading.BadWord.{BadWord}
 use Rattle.answers.proofs.CheckLaws.{first-join, first-all, first-before}
 use Rattle.zone.proofs.ReadLaws.{read_more, read-good, read-bad}
 use Rattle.zone.proofs.WordLaws.{good-first, good-second, good-number}
@@ -87,7 +88,7 @@ module _ (C : ℕ) (words : List ℕ) where
     unfolding clock_check
     read-empty a f = record { says = inl (rw h tt, f) }
 
-    pub bad-empty : {q : ℕ} → read_zone C words ≡ Err q → AskedEmpty C words (refused 32 q)
+    pub bad-empty : {b : BadWord} → read_zone C words ≡ Err b → AskedEmpty C words (refused 32 b.place)
     unfolding read_zone
     bad-empty e = read-empty _ (read-bad 32 C Empties words 0 universe e)
 
@@ -114,11 +115,11 @@ module _ (C : ℕ) (first second : List ℕ) where
     unfolding clock_check
     read-inside a f = record { says = inl (rw h tt, f) }
 
-    pub bad-first : {q : ℕ} → read_zone C first ≡ Err q → AskedInside C first second (refused 32 q)
+    pub bad-first : {b : BadWord} → read_zone C first ≡ Err b → AskedInside C first second (refused 32 b.place)
     unfolding read_zone
-    bad-first {q} e =
+    bad-first {b} e =
         read-inside _
-        (first-before (bound_checks 32 C 0 first) (bound_checks 33 C 0 second) Includes Includes 32 q (read-bad 32 C Includes first 0 universe e))
+        (first-before (bound_checks 32 C 0 first) (bound_checks 33 C 0 second) Includes Includes 32 b.place (read-bad 32 C Includes first 0 universe e))
 
     module _ {y : Square} (e : read_zone C first ≡ Ok y) where
       read-both : (a : Answer Bool) → First (bound_checks 33 C 0 second) Includes a → AskedInside C first second a
@@ -126,7 +127,7 @@ module _ (C : ℕ) (first second : List ℕ) where
       read-both a f =
           read-inside a (first-join (bound_checks 32 C 0 first) (bound_checks 33 C 0 second) Includes a (read-good 32 C first 0 universe e) f)
 
-      pub bad-second : {q : ℕ} → read_zone C second ≡ Err q → AskedInside C first second (refused 33 q)
+      pub bad-second : {b : BadWord} → read_zone C second ≡ Err b → AskedInside C first second (refused 33 b.place)
       unfolding read_zone
       bad-second f = read-both _ (read-bad 33 C Includes second 0 universe f)
 
@@ -151,9 +152,9 @@ module _ (C : ℕ) (first second : List ℕ) where
           )
 
 -- ---- the two questions decided, for every C and all lists: theorems for a reader, which no proof cites
-unfoldable pub empty_from : Result Square ℕ → Result Bool Refusal
+unfoldable pub empty_from : Result Square BadWord → Result Bool Refusal
 empty_from (Ok z) = Ok (empty? (tightened z))
-empty_from (Err p) = refuse reason.BadBound p
+empty_from (Err b) = refuse reason.BadBound b.place
 
 unfoldable pub decide_empty : ℕ → List ℕ → Result Bool Refusal
 decide_empty C words = cond (clocks? C) (empty_from (read_zone C words)) (refuse reason.BadClocks 0)
@@ -162,16 +163,16 @@ pub decided-empty : (C : ℕ) (words : List ℕ) → AskedEmpty C words (answer_
 unfolding decide_empty empty_from answer_of number
 decided-empty C words = by (clocks? C) refl (read_zone C words) refl
   where
-    by : (c : Bool) → clocks? C ≡ c → (r : Result Square ℕ) → read_zone C words ≡ r →
+    by : (c : Bool) → clocks? C ≡ c → (r : Result Square BadWord) → read_zone C words ≡ r →
         AskedEmpty C words (answer_of (cond c (empty_from r) (refuse reason.BadClocks 0)))
     by false e r f = clocks-empty C words e
     by true e (Ok z) f = good-empty C words e f refl
-    by true e (Err p) f = bad-empty C words e f
+    by true e (Err b) f = bad-empty C words e f
 
-unfoldable pub inside_from : Result Square ℕ → Result Square ℕ → Result Bool Refusal
+unfoldable pub inside_from : Result Square BadWord → Result Square BadWord → Result Bool Refusal
 inside_from (Ok y) (Ok z) = Ok (empty? (tightened y) || inside? (tightened y) z)
-inside_from (Ok y) (Err p) = refuse reason.BadSecondBound p
-inside_from (Err p) z = refuse reason.BadBound p
+inside_from (Ok y) (Err b) = refuse reason.BadSecondBound b.place
+inside_from (Err b) z = refuse reason.BadBound b.place
 
 unfoldable pub decide_inside : ℕ → List ℕ → List ℕ → Result Bool Refusal
 decide_inside C first second = cond (clocks? C) (inside_from (read_zone C first) (read_zone C second)) (refuse reason.BadClocks 0)
@@ -180,9 +181,9 @@ pub decided-inside : (C : ℕ) (first second : List ℕ) → AskedInside C first
 unfolding decide_inside inside_from answer_of number
 decided-inside C first second = by (clocks? C) refl (read_zone C first) refl (read_zone C second) refl
   where
-    by : (c : Bool) → clocks? C ≡ c → (r : Result Square ℕ) → read_zone C first ≡ r → (s : Result Square ℕ) → read_zone C second ≡ s →
+    by : (c : Bool) → clocks? C ≡ c → (r : Result Square BadWord) → read_zone C first ≡ r → (s : Result Square BadWord) → read_zone C second ≡ s →
         AskedInside C first second (answer_of (cond c (inside_from r s) (refuse reason.BadClocks 0)))
     by false e r f s g = clocks-inside C first second e
     by true e (Ok y) f (Ok z) g = good-inside C first second e f g refl
-    by true e (Ok y) f (Err p) g = bad-second C first second e f g
-    by true e (Err p) f s g = bad-first C first second e f
+    by true e (Ok y) f (Err b) g = bad-second C first second e f g
+    by true e (Err b) f s g = bad-first C first second e f

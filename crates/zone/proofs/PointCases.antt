@@ -9,7 +9,7 @@ use Rattle.zone.specs.Questions.{bound_checks}
 use Rattle.zone.specs.Points.{not_below_zero, least_second, raised_by, round_below, round_of, rounds_of, earliest_of}
 use Rattle.zone.specs.Cells.{tighter?, tighter_of, sum, negative?}
 use Rattle.zone.specs.Squares.{list_of, with_bound, tightened, passed_below, all?, empty?}
-use Rattle.zone.specs.Reading.{with_word, read_from, read_zone, zone_read}
+use Rattle.zone.specs.Reading.{with_word, read_from, read_zone, outcome_zone, zone_read}
 use Rattle.zone.proofs.WordsAtOneScale.{words-answered}
 use Rattle.zone.proofs.Cases.{between}
 
@@ -28,8 +28,8 @@ points :
     (point_answer (earliest_of 1 (tightened (zone_read 1 between))) ≡ point five_halves) ×
     (point_answer (earliest_of 2 (tightened (zone_read 2 rising))) ≡ point one_two)
 unfolding
-    bound_of bound_fields? good_bound? tighter? tighter_of sum negative? list_of with_bound passed_below all? empty? with_word read_from read_zone zone_read
-    not_below_zero least_second raised_by round_below round_of rounds_of earliest_of point_answer
+    bound_of bound_fields? good_bound? tighter? tighter_of sum negative? list_of with_bound passed_below all? empty? with_word read_from read_zone outcome_zone
+    zone_read not_below_zero least_second raised_by round_below round_of rounds_of earliest_of point_answer
 points = (refl, refl)
 
 pub point-cases : EarliestAnswer 1 (within (zone_of between)) (point five_halves) × EarliestAnswer 2 (within (zone_of rising)) (point one_two)

@@ -16,12 +16,10 @@ use Rattle.zone.specs.Squares.{Small, Tightens, cell, list_of, square_of, univer
 use Rattle.zone.specs.Squares.{delayed_square, source, reset_square}
 use Rattle.zone.specs.Scale.{Bound}
 use Rattle.zone.specs.Words.{bound_of, good_bound?}
-use Rattle.zone.specs.Reading.{cell_of, with_word, read_from, read_zone, zone_read}
+use Rattle.zone.specs.Reading.{cell_of, with_word, read_from, read_zone, outcome_zone, zone_read}
 use Rattle.zone.specs.declared.bounds.Bound.{Bound as Cell}
 use Rattle.zone.specs.declared.zones.Zone.{Zone as Square}
-use Rattle.std.specs.Prelude.{Result, Ok, Err}
-use Rattle.std.specs.Result.{result_unwrap_or}
-use Rattle.zone.proofs.ReadLaws.{read_more}
+use Rattle.std.specs.Prelude.{Ok, Err}
 use Rattle.zone.proofs.Bools.{by-test}
 use Rattle.zone.proofs.Integers.{lt-or-ge}
 use Rattle.zone.proofs.KeyLaws.{size-tighter_of, size-passed, size-cell_of}
@@ -131,26 +129,25 @@ pub tightens-with_word : (C w : ℕ) → good_bound? C w ≡ true → (z : Squar
 unfolding with_word
 tightens-with_word C w good z s = tightens-with_bound (bound_of w) z (good-number C w good) s
 
-tightens-read_from : (C : ℕ) (ws : List ℕ) (p : ℕ) (z : Square) → Tightens 3 z → {y : Square} → read_from C ws p z ≡ Ok y → Tightens 3 y
-unfolding read_from
-tightens-read_from C [] p z s {y} e = let f : z ≡ y = cc in rw (← f) s
-tightens-read_from C (w ∷ ws) p z s e =
-    let m = read_more C w ws p z e in
-    tightens-read_from C ws (suc p) (with_word w z) (tightens-with_word C w m.0 z s) m.1
+tightens-read_from : (C : ℕ) (ws : List ℕ) (p : ℕ) (z : Square) → Tightens 3 z → Tightens 3 (outcome_zone (read_from C ws p z))
+unfolding read_from outcome_zone
+tightens-read_from C [] p z s = s
+tightens-read_from C (w ∷ ws) p z s =
+    by-test (λ r. Tightens 3 (outcome_zone r)) (good_bound? C w) (read_from C ws (suc p) (with_word w z)) (Err (record { place = p; zone = z }))
+    (λ g. tightens-read_from C ws (suc p) (with_word w z) (tightens-with_word C w g z s)) (λ _. s)
 
--- what is read can be tightened three times
-pub read_fits : (C : ℕ) (ws : List ℕ) {z : Square} → read_zone C ws ≡ Ok z → Tightens 3 z
-unfolding read_zone
-read_fits C ws e = tightens-read_from C ws 0 universe tightens-universe e
-
--- and so can the zone of words that are known to be good bounds
+-- a zone that is read can be tightened three times, whatever its words
 pub read-tightens : (C : ℕ) (ws : List ℕ) → Tightens 3 (zone_read C ws)
-unfolding zone_read
-read-tightens C ws = by (read_zone C ws) (λ z e. read_fits C ws e)
-  where
-    by : (r : Result Square ℕ) → ((z : Square) → r ≡ Ok z → Tightens 3 z) → Tightens 3 (result_unwrap_or r universe)
-    by (Ok z) f = f z refl
-    by (Err p) f = tightens-universe
+unfolding read_zone zone_read
+read-tightens C ws = tightens-read_from C ws 0 universe tightens-universe
+
+pub tightens-zone_read : (C : ℕ) (ws : List ℕ) → Tightens 1 (zone_read C ws)
+tightens-zone_read C ws = tightens-fewer 1 3 _ (omega arith) (read-tightens C ws)
+
+-- and so where all words are good bounds
+pub read_fits : (C : ℕ) (ws : List ℕ) {z : Square} → read_zone C ws ≡ Ok z → Tightens 3 z
+unfolding zone_read outcome_zone
+read_fits C ws e = rw e at (read-tightens C ws)
 
 pub tightens-read : (C : ℕ) (ws : List ℕ) {z : Square} → read_zone C ws ≡ Ok z → Tightens 1 z
 tightens-read C ws e = tightens-fewer 1 3 _ (omega arith) (read_fits C ws e)

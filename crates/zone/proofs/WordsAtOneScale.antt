@@ -5,13 +5,12 @@ use mathlib.Core.Logic.{◌↔◌}
 use mathlib.Core.Bool.{true}
 use mathlib.Core.List.{List, [], ◌∷◌}
 use Rattle.std.specs.Prelude.{Ok}
-use Rattle.std.specs.Result.{result_unwrap_or}
 use native.Mathlib.Omega.{arith}
 use Rattle.zone.specs.Scale.{Valuation, within, Empty, Inside}
 use Rattle.zone.specs.Words.{good_bound?, zone_of}
 use Rattle.zone.specs.Earliest.{EarliestPoint, EarliestAnswer, point_answer}
 use Rattle.zone.specs.Points.{earliest_of}
-use Rattle.zone.specs.Reading.{with_word, read_from, read_zone, zone_read}
+use Rattle.zone.specs.Reading.{with_word, read_from, read_zone, outcome_zone, zone_read}
 use Rattle.zone.specs.Squares.{universe, tightened}
 use Rattle.zone.specs.Questions.{clocks?, bound_checks}
 use Rattle.zone.specs.declared.zones.Zone.{Zone as Square}
@@ -23,8 +22,8 @@ use Rattle.zone.proofs.Decided.{clocks-few, clocks-some, read-over}
 
 -- words that pass 32, or 33, are read to their end
 good-read : (number C : ℕ) (ws : List ℕ) (p : ℕ) (z : Square) → AllHold (bound_checks number C p ws) →
-    read_from C ws p z ≡ Ok (result_unwrap_or (read_from C ws p z) universe)
-unfolding read_from bound_checks
+    read_from C ws p z ≡ Ok (outcome_zone (read_from C ws p z))
+unfolding read_from outcome_zone bound_checks
 good-read number C [] p z h = refl
 good-read number C (w ∷ ws) p z h = rw (is_true (good_bound? C w) h.0) (good-read number C ws (suc p) (with_word w z) h.1)
 

@@ -28,7 +28,7 @@ pub(crate) fn asked_clocks(clocks: u32) -> Result<Clocks, Refusal>
 pub(crate) fn asked_zone(clocks: Clocks, list: &[u32], reason: Reason) -> Result<Zone, Refusal>
     ensures { result ≡ or_refused reason (read_zone clocks.count list.now) }
 {
-    read_zone(clocks, list).map_err(|place| reason.at(place))
+    read_zone(clocks, list).map_err(|bad| reason.at(bad.place))
 }
 
 /// Is the zone of these bound words, over clocks 1 to `clocks`, empty at every scale?

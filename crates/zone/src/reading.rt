@@ -19,14 +19,21 @@ impl Zone {
     }
 }
 
-/// The zone of a list of bound words, or the place of the first word that is no good bound.
-pub fn read_zone(clocks: Clocks, list: &[u32]) -> Result<Zone, usize>
+/// The first word that is no good bound: its place, and the zone of the words before it.
+#[derive(Clone, Copy, Debug, PartialEq, Eq)]
+pub struct BadWord {
+    pub place: usize,
+    pub zone: Zone,
+}
+
+/// The zone of a list of bound words, or the first word that is no good bound.
+pub fn read_zone(clocks: Clocks, list: &[u32]) -> Result<Zone, BadWord>
     ensures { result ≡ read_zone clocks.count list.now }
 {
     let mut zone = Zone::universe();
     for (at, &word) in list.iter().enumerate() {
         if !words::good_bound(clocks.count, word) {
-            return Err(at);
+            return Err(BadWord { place: at, zone });
         }
         zone.add_bound(word);
     }

@@ -45,7 +45,8 @@ pub(crate) fn sources(mask: u32) -> [usize; 5]
 }
 
 impl Zone {
-    /// Every key 0: what stands at a place where no zone was put. It says nothing; zeros fill an array faster than any other.
+    /// Every key 0: what stands at a place where no zone was put. Each bound is "below 0", so no valuation is in it; zeros fill an array faster
+    /// than any other.
     pub const ZEROS: Zone = Zone {
         cells: [Bound { key: 0 }; 25],
     };
@@ -155,8 +156,8 @@ impl Zone {
     pub fn is_empty(self) -> bool
         ensures { result ≡ empty? self }
     {
-        // `any` may end early: document 02, card 2, asks for no branch in the pick of a bound alone
-        (0..5).any(|i| self.cells[i * 6].negative())
+        // kept: no `any`, which ends early: as in `inside`, the loop has no branch but its own end
+        (0..5).fold(false, |empty, i| empty | self.cells[i * 6].negative())
     }
 
     /// Of a tightened zone that is not empty: it lies inside the other. Of any other zone a yes is right, and a no tells nothing.

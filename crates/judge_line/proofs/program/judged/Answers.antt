@@ -2,5 +2,5 @@
 use Rattle.judge_line.proofs.Printing.{answers_refusal}
 use Rattle.judge_line.proofs.program.judged.Goals as goal
 
-pub returns-in_err-list : goal.returns-in_err-list
-returns-in_err-list c = answers_refusal _ _ _ c.in_err-list.ensures c.from_residual.ensures.1
+pub returns-in_err-check_bytes : goal.returns-in_err-check_bytes
+returns-in_err-check_bytes c = answers_refusal _ _ _ c.in_err-check_bytes.ensures c.from_residual.ensures.1

@@ -1,6 +1,6 @@
 use Rattle.std.proofs.Common.{refl, ◌∙◌, arith}
 use Rattle.std.proofs.lemmas.List.{get_or_default}
-use Rattle.zone.proofs.Sizes.{tightens-fewer, read-tightens}
+use Rattle.zone.proofs.Sizes.{tightens-fewer, read-tightens, tightens-zone_read}
 use Rattle.draft.specs.Nodes.{no_node, fronts_of}
 use Rattle.judge.proofs.ReachSizes.{waited_tightens}
 use Rattle.draft.proofs.ExploreNodes.{node-target, node-rows}
@@ -15,7 +15,7 @@ pub waited-waited-requires : goal.waited-waited-requires
 waited-waited-requires c =
     let asked = c.args.source.now.asked in
     let same = rw c.deref.ensures.0 at (get_or_default c.deref.result.now c.args.n c.index-deref-n.result no_node (rw c.deref.ensures.0 c.requires.0)) in (
-      rw c.zone.ensures (tightens-fewer 1 3 _ (omega arith) (read-tightens _ _)),
+      rw c.zone.ensures (tightens-zone_read _ _),
       rw (c.deref.ensures.0, same) (tightens-fewer 1 3 _ (omega arith) (asked.invariants _ (c.requires.1.at c.args.n c.requires.0))),
     )
 
