@@ -31,6 +31,10 @@ module _
         (word_first (lacks? w) (position_from lacks? (suc p) ws) p (checks (suc p) ws ++ more) (First more P (f None)) (rw (add-one p) at h)
         (from-first (suc p) ws))
 
+    -- of all words
+    pub lacking-first : (ws : List ℕ) → (position lacks? ws ≡ None → First more P (f None)) → First (checks 0 ws ++ more) P (f (position lacks? ws))
+    lacking-first ws = rw (position_from-zero lacks? ws) (from-first 0 ws)
+
 -- ---- the furthest number f of the words read so far: a word takes none back, and lacks none that f reaches
 module _
     {S K : Type 0} (t : Steps S K) (f : S → ℕ) (n : ℕ) (lacks? : ℕ → Bool)
